@@ -1,0 +1,177 @@
+-- Small surveys as tables of bytes, what a call on one gives as a list of numbers, and the common statement of all examples.
+-- Assumes nothing.
+use Prim.Native.Nat.{ℕ, zero, suc, _+_, _*_, _/_, _%_}
+use mathlib.Core.Path.{_≡_, refl, ap₂}
+use mathlib.Core.Bool.{Bool, true, false, _&&_, cond}
+use mathlib.Core.List.{List, [], _∷_, _++_, map}
+use mathlib.Core.Option.{Option, none, some}
+use lib.Dec.{eqb, eqb→eq, T}
+use lib.ListN.{replicate}
+use lib.Ieee.{Float, binary32, ofBits, toBits}
+use Rattle.base.specs.Lists.{any, all, keep, collect}
+use Rattle.rules.specs.Survey.{Place, origin, X, axes, same, cellsOf}
+use Rattle.rules.specs.Edges.{onSide, Spot}
+use Rattle.rules.specs.Faces.{steps, saddleCut}
+use Rattle.rules.specs.Outputs.{surveyRefusal, Drawing, draw, enquiry, returned, crossing, coordinates}
+use Rattle.rules.specs.declared.Edge.{Edge}
+use Rattle.rules.specs.declared.Answer.{Answer}
+use Rattle.rules.specs.declared.Answer.the-variants.{Refused, Found}
+
+-- ---- tables
+
+-- n bytes of a number, little-endian
+abbrev pub bytesOf : ℕ → ℕ → List ℕ
+bytesOf zero v = []
+bytesOf (suc n) v = v % 256 ∷ bytesOf n (v / 256)
+
+abbrev pub place : ℕ → ℕ → ℕ → Place
+place a b c = record { x = a; y = b; z = c }
+
+-- the bits of the sounding at a place
+abbrev pub Soundings : Type 0
+Soundings = Place → ℕ
+
+-- v at the places of a list, w elsewhere
+abbrev pub at : List Place → ℕ → ℕ → Soundings
+at ps v w p = cond (any (same p) ps) v w
+
+-- bits of floats: +1, -1, 2, 3
+abbrev pub one : ℕ
+one = 0x3f80_0000
+
+abbrev pub minusOne : ℕ
+minusOne = 0xbf80_0000
+
+abbrev pub two : ℕ
+two = 0x4000_0000
+
+abbrev pub three : ℕ
+three = 0x4040_0000
+
+-- +1 at the wet places, -1 elsewhere
+abbrev pub wetAtOnly : List Place → Soundings
+wetAtOnly ps = at ps one minusOne
+
+abbrev pub cellTable : List ℕ → List ℕ
+cellTable es = collect (bytesOf 4) es
+
+abbrev pub cornerTable : List Place → Soundings → List ℕ
+cornerTable ps f = collect (λ p. bytesOf 2 (p .x) ++ bytesOf 2 (p .y) ++ bytesOf 2 (p .z) ++ bytesOf 4 (f p)) ps
+
+-- the places with coordinates of a rising list, by z, then y, then x
+abbrev pub grid : List ℕ → List Place
+grid vs = collect (λ c. collect (λ b. map (λ a. place a b c) vs) vs) vs
+
+-- cells, as a table, and the places of the corners
+pub record Shape : Type 0 where
+  pub cells : List ℕ
+  pub corners : List Place
+
+-- of given entries, with the corners of all cells, whose coordinates are in a rising list
+abbrev pub shape : List ℕ → List ℕ → Shape
+unfolding cellsOf
+shape es vs = let t = cellTable es in record { cells = t; corners = keep (λ p. any (λ c. all (λ a. onSide c a p) axes) (cellsOf t)) (grid vs) }
+
+-- n leaves
+abbrev pub leaves : ℕ → List ℕ
+leaves n = replicate n 0
+
+-- one leaf; one split
+abbrev pub leaf : Shape
+leaf = record { cells = cellTable (leaves 1); corners = grid (0 ∷ 1024 ∷ []) }
+
+abbrev pub split : Shape
+split = record { cells = cellTable (1 ∷ leaves 8); corners = grid (0 ∷ 512 ∷ 1024 ∷ []) }
+
+-- ---- calls and their answers
+
+-- a check by itself; a drawing with slices of two lengths; an enquiry by axis, lower end and length; the steps of a face by its four wet marks
+pub data Call : Type 0 where
+  checking : Call
+  drawing : ℕ → ℕ → Call
+  asking : ℕ → Place → ℕ → Call
+  stepping : Bool → Bool → Bool → Bool → Call
+
+-- a survey, the bits of a clearance, a call and its answer
+pub record Example : Type 0 where
+  pub survey : Shape
+  pub soundings : Soundings
+  pub clearance : ℕ
+  pub call : Call
+  pub answer : List ℕ
+
+-- at clearance 0
+abbrev pub example : Shape → Soundings → Call → List ℕ → Example
+example s f c r = record { survey = s; soundings = f; clearance = 0; call = c; answer = r }
+
+abbrev pub bits : Float → ℕ
+unfolding toBits
+bits v = toBits binary32 v
+
+-- A drawing's answer: number, counts, the bits of the point slice, the triangle slice. The slices hold 0 and 9 before.
+abbrev pub drawingNumbers : Drawing → List ℕ
+unfolding toBits
+drawingNumbers d = d .result .number ∷ d .result .points ∷ d .result .triangles ∷ map bits (d .points) ++ d .triangles
+
+-- an enquiry's answer: the number returned, and for a crossing the point's number and the bits of its place
+abbrev pub crossingNumbers : Option (ℕ × Spot) → List ℕ
+unfolding toBits
+crossingNumbers none = []
+crossingNumbers (some c) = c .0 ∷ map bits (coordinates (c .1))
+
+abbrev pub answerNumbers : Answer → List ℕ
+unfolding toBits
+answerNumbers (Refused n) = returned (Refused n) ∷ []
+answerNumbers (Found e) = returned (Found e) ∷ crossingNumbers (crossing e)
+
+unfoldable pub outcome : Call → Float → List ℕ → List ℕ → List ℕ
+unfolding surveyRefusal draw enquiry ofBits toBits saddleCut
+outcome checking clearance tc tk = surveyRefusal tc tk ∷ []
+outcome (drawing n m) clearance tc tk = drawingNumbers (draw tc tk clearance (replicate n (ofBits binary32 0)) (replicate m 9))
+outcome (asking a p l) clearance tc tk = answerNumbers (enquiry tc tk clearance a p l)
+outcome (stepping a b c d) clearance tc tk = collect (λ t. t .0 ∷ t .1 ∷ []) (steps (saddleCut X origin 0) a b c d)
+
+unfoldable pub outcomeOf : Example → List ℕ
+unfolding outcome ofBits
+outcomeOf e = outcome (e .call) (ofBits binary32 (e .clearance)) (e .survey .cells) (cornerTable (e .survey .corners) (e .soundings))
+
+-- the common statement: what the rules give is the answer written there
+unfoldable pub Right : Example → Type 0
+unfolding outcomeOf
+Right e = outcomeOf e ≡ e .answer
+
+-- ---- a test that antt computes, and the lemma from it to the statement at each example
+
+abbrev pub equal : List ℕ → List ℕ → Bool
+equal [] [] = true
+equal [] (y ∷ ys) = false
+equal (x ∷ xs) [] = false
+equal (x ∷ xs) (y ∷ ys) = eqb x y && equal xs ys
+
+unfoldable pub right : Example → Bool
+unfolding outcomeOf
+right e = equal (outcomeOf e) (e .answer)
+
+abbrev pub Each : (Example → Type 0) → List Example → Type 0
+Each P [] = Unit {0}
+Each P (e ∷ es) = P e × Each P es
+
+and-left : (a b : Bool) → T (a && b) → T a
+and-left true b t = tt
+and-left false b t = t
+
+and-right : (a b : Bool) → T (a && b) → T b
+and-right true b t = t
+and-right false b t = absurd t
+
+equal→eq : (xs ys : List ℕ) → T (equal xs ys) → xs ≡ ys
+equal→eq [] [] t = refl
+equal→eq [] (y ∷ ys) t = absurd t
+equal→eq (x ∷ xs) [] t = absurd t
+equal→eq (x ∷ xs) (y ∷ ys) t =
+    ap₂ (λ (h : ℕ) (r : List ℕ). h ∷ r) (eqb→eq x y (and-left (eqb x y) (equal xs ys) t)) (equal→eq xs ys (and-right (eqb x y) (equal xs ys) t))
+
+pub each : (es : List Example) → T (all right es) → Each Right es
+unfolding Right right
+each [] t = tt
+each (e ∷ es) t = (equal→eq (outcomeOf e) (e .answer) (and-left (right e) (all right es) t), each es (and-right (right e) (all right es) t))

@@ -1,0 +1,163 @@
+-- Document 01, "The survey": places, both tables, the cells by record number, the corners, wetness.
+-- The document speaks of depths; here a cell of depth d has the level 10 - d, and its size is 2 ^ level.
+-- Assumes nothing.
+use Prim.Native.Nat.{ℕ, pred, _+_, _-_, _*_, _/_, _^_}
+use mathlib.Core.Bool.{Bool, true, false, not, _&&_, cond}
+use mathlib.Core.List.{List, [], _∷_, _++_, map}
+use lib.Dec.{eqb}
+use lib.ListN.{length, take, drop}
+use lib.IntN.{pos}
+use lib.Ieee.{Float, fin, binary32, ofBits, le}
+use Rattle.base.specs.Lists.{first, collect, count}
+use Rattle.rules.specs.declared.Corner.{Corner}
+use Rattle.rules.specs.declared.Leaf.{Leaf}
+
+-- ---- places
+
+-- a place of the box, which runs from 0 to 1,024 on x, y and z
+pub record Place : Type 0 where
+  pub x : ℕ
+  pub y : ℕ
+  pub z : ℕ
+
+abbrev pub origin : Place
+origin = record { x = 0; y = 0; z = 0 }
+
+pub data Axis : Type 0 where
+  X Y Z : Axis
+
+abbrev pub axes : List Axis
+axes = X ∷ Y ∷ Z ∷ []
+
+-- x, y, z in turn: after z comes x again
+abbrev pub next : Axis → Axis
+next X = Y
+next Y = Z
+next Z = X
+
+-- the coordinate on an axis
+abbrev pub along : Axis → Place → ℕ
+along X p = p .x
+along Y p = p .y
+along Z p = p .z
+
+-- a place with another coordinate on an axis
+abbrev pub put : Axis → ℕ → Place → Place
+put X v p = record { x = v; y = p .y; z = p .z }
+put Y v p = record { x = p .x; y = v; z = p .z }
+put Z v p = record { x = p .x; y = p .y; z = v }
+
+-- a place moved up by d on an axis
+abbrev pub move : Axis → ℕ → Place → Place
+move a d p = put a (along a p + d) p
+
+-- a place moved down by d on an axis
+abbrev pub back : Axis → ℕ → Place → Place
+back a d p = put a (along a p - d) p
+
+abbrev pub same : Place → Place → Bool
+same p q = eqb (p .x) (q .x) && (eqb (p .y) (q .y) && eqb (p .z) (q .z))
+
+-- a place, and the one s above it on an axis
+abbrev pub pair : Axis → ℕ → Place → List Place
+pair a s p = p ∷ move a s p ∷ []
+
+-- the eight corners of a cube of size s, in the order of children: bit 0 of a corner's number is the upper one of x, bit 1 of y, bit 2 of z
+abbrev pub octants : ℕ → Place → List Place
+octants s p = collect (pair X s) (collect (pair Y s) (pair Z s p))
+
+-- ---- bytes
+
+-- a little-endian number
+abbrev pub little : List ℕ → ℕ
+little [] = 0
+little (b ∷ bs) = b + 256 * little bs
+
+-- n bytes of a table, from byte i on
+abbrev pub bytes : List ℕ → ℕ → ℕ → List ℕ
+bytes t i n = take n (drop i t)
+
+-- ---- the cell table
+
+-- the entry of record k, 4 bytes
+abbrev pub entry : List ℕ → ℕ → ℕ
+entry t k = little (bytes t (4 * k) 4)
+
+abbrev pub entries : List ℕ → List ℕ
+entries t = map (entry t) (count 0 (length t / 4))
+
+-- a cell: its lowest corner, its level, and whether it is split
+pub record Cell : Type 0 where
+  pub low : Place
+  pub level : ℕ
+  pub split : Bool
+
+abbrev pub cell : Place → ℕ → Bool → Cell
+cell p l s = record { low = p; level = l; split = s }
+
+abbrev pub size : Cell → ℕ
+size c = 2 ^ c .level
+
+-- the eight corners of a cell
+abbrev pub cellCorners : Cell → List Place
+cellCorners c = octants (size c) (c .low)
+
+-- the eight children of a cell, of which it is not yet known whether they are split
+abbrev pub children : Cell → List Cell
+children c = let l = pred (c .level) in map (λ p. cell p l false) (octants (2 ^ l) (c .low))
+
+-- The cells by record number. A record is about the cell that waits first in a queue; if it is split (not 0), its children join the queue.
+-- So the first split record has the children 1 to 8, the next one 9 to 16, and so on, as check 3 asks of the entries.
+unfoldable pub cellsFrom : List ℕ → List Cell → List Cell
+cellsFrom [] q = []
+cellsFrom (e ∷ es) [] = []
+cellsFrom (e ∷ es) (c ∷ q) = cell (c .low) (c .level) (not (eqb e 0)) ∷ cellsFrom es (q ++ cond (eqb e 0) [] (children c))
+
+-- record 0 is the whole box, of level 10
+unfoldable pub cellsOf : List ℕ → List Cell
+unfolding cellsFrom
+cellsOf t = cellsFrom (entries t) (cell origin 10 false ∷ [])
+
+-- ---- the corner table
+
+-- record k, 10 bytes: x, y, z, then the sounding
+unfoldable pub cornerRecord : List ℕ → ℕ → Corner
+unfolding ofBits
+cornerRecord t k =
+    let r = bytes t (10 * k) 10 in
+    record { x = little (bytes r 0 2); y = little (bytes r 2 2); z = little (bytes r 4 2); sounding = ofBits binary32 (little (bytes r 6 4)) }
+
+unfoldable pub cornersOf : List ℕ → List Corner
+unfolding cornerRecord
+cornersOf t = map (cornerRecord t) (count 0 (length t / 10))
+
+abbrev pub placeOf : Corner → Place
+placeOf c = record { x = c .x; y = c .y; z = c .z }
+
+-- the corner at a place; where there is none, which check 6 refuses, its sounding is 0
+unfoldable pub cornerAt : List Corner → Place → Corner
+cornerAt cs p = first (λ c. same p (placeOf c)) (record { x = p .x; y = p .y; z = p .z; sounding = fin false 0 (pos 0) }) cs
+
+-- a leaf with its eight corners
+unfoldable pub leafOf : List Corner → Cell → Leaf
+unfolding cornerAt
+leafOf cs c = record { corners = map (cornerAt cs) (cellCorners c) }
+
+-- ---- wetness
+
+-- wet: the sounding is at least the clearance
+unfoldable pub wet : Float → Corner → Bool
+unfolding le
+wet clearance c = le clearance (c .sounding)
+
+unfoldable pub wetAt : List Corner → Float → Place → Bool
+unfolding wet cornerAt
+wetAt corners clearance p = wet clearance (cornerAt corners p)
+
+-- A survey at a clearance, as the rules of edges, steps and loops see it: the cells by record number, the corners' places in the order of
+-- their table, which places are wet, and how a face with four odd edges is cut, by its axis, lowest corner and level (see `steps`).
+pub record Survey : Type 0 where
+  pub cells : List Cell
+  pub places : List Place
+  pub isWet : Place → Bool
+  pub saddle : Axis → Place → ℕ → Bool

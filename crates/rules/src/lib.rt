@@ -1,0 +1,34 @@
+// Document 01 as definitions: what people must believe, in specs/, in the document's order. Here, the types that the calls take and return.
+// Uses base. proofs/ has the surveys that document 01 wants proved.
+
+// A corner of the survey, taken up with its place and sounding together.
+pub struct Corner {
+    pub x: u16,
+    pub y: u16,
+    pub z: u16,
+    pub sounding: f32,
+}
+
+// A leaf with its eight corners held side by side, in the order of a cell's children.
+pub struct Leaf {
+    pub corners: [Corner; 8],
+}
+
+// An edge as the enquiry sees it: even, or crossing with the point's number and its place in three floats.
+pub enum Edge {
+    Even,
+    Crossing(u32, f32, f32, f32),
+}
+
+// What the edge enquiry answers: a refusal's number alone, or the edge.
+pub enum Answer {
+    Refused(u32),
+    Found(Edge),
+}
+
+// What drawing returns: a number (0 if drawn) and both counts.
+pub struct Drawn {
+    pub number: u32,
+    pub points: u32,
+    pub triangles: u32,
+}
