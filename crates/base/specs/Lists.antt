@@ -1,9 +1,10 @@
 -- Tests and choices over lists, for the definitions above. A recursive call that a test may leave out stands in a `let`, which antt
 -- computes only if it is asked for.
 -- Assumes nothing.
-use Prim.Native.Nat.{ℕ, zero, suc, _+_}
+use Prim.Native.Nat.{ℕ, zero, suc, _+_, _*_}
 use mathlib.Core.Bool.{Bool, true, false, _&&_, _||_, cond}
 use mathlib.Core.List.{List, [], _∷_, _++_}
+use lib.ListN.{take, drop}
 
 module _ {A : Type 0} where
   -- some element passes the test
@@ -56,3 +57,12 @@ count i (suc n) = i ∷ count (suc i) n
 abbrev pub bit : Bool → ℕ
 bit true = 1
 bit false = 0
+
+-- a little-endian number
+abbrev pub little : List ℕ → ℕ
+little [] = 0
+little (b ∷ bs) = b + 256 * little bs
+
+-- n bytes of a table, from byte i on
+abbrev pub bytes : List ℕ → ℕ → ℕ → List ℕ
+bytes t i n = take n (drop i t)

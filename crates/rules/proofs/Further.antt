@@ -4,7 +4,8 @@ use Prim.Native.Nat.{ℕ, _+_, _-_, _*_}
 use mathlib.Core.List.{List, [], _∷_, _++_}
 use lib.ListN.{replicate}
 use Rattle.base.specs.Lists.{collect, count}
-use Rattle.rules.specs.Survey.{Place, cellsOf}
+use Rattle.base.specs.Grid.{Place}
+use Rattle.rules.specs.Survey.{cellsOf}
 use Rattle.rules.proofs.Surveys.{cellTable, place, Soundings, at, one, minusOne, two, three, wetAtOnly, Shape, shape, leaves, leaf, split, Call, checking, drawing, asking, Example, example, Right, right, Each, each}
 use Rattle.rules.proofs.Starred.{f64, f128, f256, f512, centre, twins}
 

@@ -9,9 +9,10 @@ use lib.Dec.{eqb, eqb→eq, T}
 use lib.ListN.{replicate}
 use lib.Ieee.{Float, binary32, ofBits, toBits}
 use Rattle.base.specs.Lists.{any, all, keep, collect}
-use Rattle.rules.specs.Survey.{Place, origin, X, axes, same, cellsOf}
+use Rattle.base.specs.Grid.{Place, origin, X, axes, same}
+use Rattle.rules.specs.Survey.{cellsOf}
 use Rattle.rules.specs.Edges.{onSide, Spot}
-use Rattle.rules.specs.Faces.{steps, saddleCut}
+use Rattle.rules.specs.Steps.{steps, saddleCut}
 use Rattle.rules.specs.Outputs.{surveyRefusal, Drawing, draw, enquiry, returned, crossing, coordinates}
 use Rattle.rules.specs.declared.Edge.{Edge}
 use Rattle.rules.specs.declared.Answer.{Answer}

@@ -1,5 +1,4 @@
 -- Document 01, "What closing says", with demand 3 of the request as the record `Closed`.
--- Assumes nothing.
 use Prim.Native.Nat.{ℕ, zero, suc, _+_, _*_, _^_, _<_, _≤_}
 use mathlib.Core.Path.{_≡_}
 use mathlib.Core.Bool.{Bool, true, false, not, _&&_, _||_}
@@ -8,18 +7,12 @@ use lib.Dec.{eqb, T}
 use lib.ListN.{length, getD, take, drop}
 use lib.Ieee.{Float}
 use Rattle.base.specs.Lists.{any, keep, collect, distinct, sum, bit}
-use Rattle.rules.specs.Survey.{Axis, axes, next, along, pair, Cell, size, cornersOf, Survey}
+use Rattle.base.specs.Grid.{Axis, axes, next, along, pair}
+use Rattle.rules.specs.Survey.{Cell, size, cornersOf, Survey}
 use Rattle.rules.specs.Edges.{CellEdge, edge, upperEnd, sameEdge, undivided, odd, crossed, pointEdges, spotOn, OnEdge}
-use Rattle.rules.specs.Loops.{Triangle}
-use Rattle.rules.specs.Outputs.{firstOf, checks, surveyOf, coordinates}
+use Rattle.rules.specs.Steps.{Triangle}
+use Rattle.rules.specs.Outputs.{surveyOf, coordinates}
 use Rattle.rules.specs.declared.Drawn.{Drawn}
-
--- accepted: check 8 and every check before it find nothing to refuse
-unfoldable pub accepted : List ℕ → List ℕ → Float → Bool
-unfolding checks
-accepted tc tk clearance = eqb (firstOf (checks tc tk clearance)) 0
-
--- ---- edges
 
 -- the four edges of a cell on an axis
 abbrev pub cellEdgesOn : Cell → Axis → List CellEdge
@@ -47,8 +40,6 @@ isUndivided s e = undivided (s .cells) (e .axis) (e .low) (e .level)
 abbrev pub isOdd : Survey → CellEdge → Bool
 isOdd s e = odd (s .isWet) (e .axis) (e .low) (e .level)
 
--- ---- triangles
-
 -- a weight of steps, summed over the three runs of a triangle: from its first point to its second, from that to its third, and back
 abbrev pub run : (ℕ → ℕ → ℕ) → Triangle → ℕ
 run w t = w (t .0) (t .1) + w (t .1) (t .2) + w (t .2) (t .0)
@@ -65,9 +56,7 @@ runs p q ts = sum (run (step p q)) ts
 abbrev pub meets : ℕ → Triangle → Bool
 meets p t = eqb p (t .0) || (eqb p (t .1) || eqb p (t .2))
 
--- ---- demand 3
-
--- Of a survey at a clearance, a point count and triangles.
+-- Demand 3, of a survey at a clearance, a point count and triangles.
 pub record Closed (s : Survey) (count : ℕ) (triangles : List Triangle) : Type 0 where
   -- for every two crossing points whose edges don't both lie in one outer face of the box, the triangles, counted over the whole drawing, run
   -- from the first to the second exactly as often as from the second to the first
@@ -82,14 +71,12 @@ pub record Closed (s : Survey) (count : ℕ) (triangles : List Triangle) : Type 
   -- the point count is the number of such edges
   pub counted : count ≡ length (keep (λ e. isUndivided s e && isOdd s e) (allEdges (s .cells)))
 
--- ---- the same of what stands in lent slices
-
 -- the triangles in the first elements of a slice, three for each of n
 abbrev pub trianglesIn : ℕ → List ℕ → List Triangle
 trianglesIn zero ts = []
 trianglesIn (suc n) ts = (getD ts 0 0, getD ts 1 0, getD ts 2 0) ∷ trianglesIn n (drop 3 ts)
 
--- when drawing returned r with number 0, and the slices then hold these
+-- The same of what stands in the lent slices when drawing has returned r with the number 0.
 pub record ClosedIn (tc tk : List ℕ) (clearance : Float) (r : Drawn) (points : List Float) (triangles : List ℕ) : Type 0 where
   pub closed : Closed (surveyOf tc tk clearance) (r .points) (trianglesIn (r .triangles) triangles)
   -- the slices have these elements

@@ -1,5 +1,4 @@
 -- Document 01, "Edges, points and places". An edge is given by its axis, its lower end and its level; its length is 2 ^ level.
--- Assumes nothing.
 use Prim.Native.Nat.{ℕ, zero, suc, _+_, _^_}
 use mathlib.Core.Bool.{Bool, true, false, not, _&&_, _||_, Bool·beq, cond}
 use mathlib.Core.List.{List, [], _∷_, _++_, map}
@@ -8,10 +7,9 @@ use lib.Dec.{eqb, ltb, T}
 use lib.IntN.{pos}
 use lib.Ieee.{Float, binary32, add, sub, mul, div, ofInt, le}
 use Rattle.base.specs.Lists.{any, keep, collect, position, count}
-use Rattle.rules.specs.Survey.{Place, Axis, X, Y, Z, axes, next, along, move, same, Cell, size, placeOf, cornerAt, wet, Survey}
+use Rattle.base.specs.Grid.{Place, Axis, X, Y, Z, axes, axisNumber, next, along, move, same}
+use Rattle.rules.specs.Survey.{Cell, size, placeOf, cornerAt, wet, Survey}
 use Rattle.rules.specs.declared.Corner.{Corner}
-
--- ---- edges
 
 pub record CellEdge : Type 0 where
   pub axis : Axis
@@ -23,11 +21,6 @@ edge a p l = record { axis = a; low = p; level = l }
 
 abbrev pub upperEnd : CellEdge → Place
 upperEnd e = move (e .axis) (2 ^ e .level) (e .low)
-
-abbrev pub axisNumber : Axis → ℕ
-axisNumber X = 0
-axisNumber Y = 1
-axisNumber Z = 2
 
 -- edges with the same axis, lower end and length are one edge
 abbrev pub sameEdge : CellEdge → CellEdge → Bool
@@ -61,8 +54,6 @@ undivided cells a p l = isEdge cells a p l && not (divided cells a p l)
 unfoldable pub odd : (Place → Bool) → Axis → Place → ℕ → Bool
 odd isWet a p l = not (Bool·beq (isWet p) (isWet (move a (2 ^ l) p)))
 
--- ---- points
-
 -- an odd undivided edge, which carries one crossing point
 unfoldable pub crossed : Survey → Axis → Place → ℕ → Bool
 unfolding undivided odd
@@ -94,8 +85,7 @@ unfoldable pub pointOf : Survey → CellEdge → ℕ
 unfolding numberOf carrier
 pointOf s e = numberOf s (carrier s (e .axis) (e .low) (e .level))
 
--- ---- places of points: all in binary32, one rounding for each operation
-
+-- Places of points are reckoned in binary32, with one rounding for each operation. A whole number as a float:
 unfoldable pub float : ℕ → Float
 unfolding ofInt
 float n = ofInt binary32 (pos n)
@@ -136,20 +126,15 @@ spotOn corners clearance e =
     let v = cond (wet clearance upper) (moving clearance (e .axis) length lower upper) (moving clearance (e .axis) length upper lower) in
     spot (e .axis) v (e .low)
 
--- a float between two whole coordinates, ends included
-unfoldable pub between : ℕ → ℕ → Float → Bool
-unfolding float le
-between low high v = le (float low) v && le v (float high)
-
 -- the coordinate of a spot on an axis
 abbrev pub coordinate : Axis → Spot → Float
 coordinate X s = s .x
 coordinate Y s = s .y
 coordinate Z s = s .z
 
--- The bound of a place: it is that of a place on the edge but for the moving coordinate, which lies between those of the two ends.
+-- The bound of a place: the moving coordinate lies between the two end coordinates, ends included, and the others are the edge's.
 unfoldable pub OnEdge : CellEdge → Spot → Type 0
-unfolding between spot
+unfolding float le spot
 OnEdge e s =
-    (T (between (along (e .axis) (e .low)) (along (e .axis) (upperEnd e)) (coordinate (e .axis) s)))
-    × (s ≡ spot (e .axis) (coordinate (e .axis) s) (e .low))
+    let v = coordinate (e .axis) s in
+    T (le (float (along (e .axis) (e .low))) v) × T (le v (float (along (e .axis) (upperEnd e)))) × (s ≡ spot (e .axis) v (e .low))

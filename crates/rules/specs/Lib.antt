@@ -1,6 +1,5 @@
 pub mod Survey
 pub mod Edges
-pub mod Faces
-pub mod Loops
+pub mod Steps
 pub mod Outputs
 pub mod Closing

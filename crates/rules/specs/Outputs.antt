@@ -1,5 +1,4 @@
 -- Document 01, "Outputs and refusals": the checks in their order, and what each call gives for every input.
--- Assumes nothing.
 use Prim.Native.Nat.{ℕ, zero, suc, _+_, _*_, _%_, _^_}
 use mathlib.Core.Bool.{Bool, true, false, not, _&&_, _||_, cond}
 use mathlib.Core.List.{List, [], _∷_, _++_, map}
@@ -9,18 +8,16 @@ use lib.ListN.{length, drop}
 use lib.IntN.{pos}
 use lib.Ieee.{Float, fin, le}
 use Rattle.base.specs.Lists.{any, all, first, collect, count}
-use Rattle.rules.specs.Survey.{Place, Axis, X, Y, Z, same, Cell, entries, cellsOf, cellCorners, cornersOf, placeOf, wetAt, Survey}
+use Rattle.base.specs.Grid.{Place, axisOf, same}
+use Rattle.rules.specs.Survey.{Cell, entries, cellsOf, cellCorners, cornersOf, placeOf, wetAt, Survey}
 use Rattle.rules.specs.Edges.{CellEdge, isEdge, odd, pointEdges, numberOf, carrier, Spot, spotOn}
-use Rattle.rules.specs.Faces.{saddleCut}
-use Rattle.rules.specs.Loops.{Triangle, allTriangles}
+use Rattle.rules.specs.Steps.{saddleCut, Triangle, allTriangles}
 use Rattle.rules.specs.declared.Corner.{Corner}
 use Rattle.rules.specs.declared.Edge.{Edge}
 use Rattle.rules.specs.declared.Edge.the-variants.{Even, Crossing}
 use Rattle.rules.specs.declared.Answer.{Answer}
 use Rattle.rules.specs.declared.Answer.the-variants.{Refused, Found}
 use Rattle.rules.specs.declared.Drawn.{Drawn}
-
--- ---- refusals 1 to 8
 
 -- empty, not whole records of n bytes, or over the limit
 abbrev pub badTable : ℕ → ℕ → List ℕ → Bool
@@ -34,10 +31,6 @@ entriesRight n k (e ∷ es) =
     let leaf = entriesRight (suc n) k es in
     let split = eqb e (1 + 8 * k) && (ltb n e && entriesRight (suc n) (suc k) es) in
     cond (eqb e 0) leaf split
-
--- a cell of depth 10, which is level 0, is split
-abbrev pub tooDeep : Cell → Bool
-tooDeep c = c .split && eqb (c .level) 0
 
 -- the order of corner records: by z, then y, then x
 abbrev pub before : Place → Place → Bool
@@ -61,17 +54,13 @@ unfoldable pub inRange : Float → Bool
 unfolding le
 inRange v = le (fin true 1 (pos 20)) v && le v (fin false 1 (pos 20))
 
--- a check: its number and whether it applies
-abbrev pub Check : Type 0
-Check = ℕ × Bool
-
--- the number of the first check that applies, or 0
-abbrev pub firstOf : List Check → ℕ
+-- of checks, each with its number and whether it applies, the number of the first that does, or 0
+abbrev pub firstOf : List (ℕ × Bool) → ℕ
 firstOf [] = 0
 firstOf (t ∷ ts) = let r = firstOf ts in cond (t .1) (t .0) r
 
 -- the checks of the survey by itself: of a cell table and a corner table
-unfoldable pub surveyChecks : List ℕ → List ℕ → List Check
+unfoldable pub surveyChecks : List ℕ → List ℕ → List (ℕ × Bool)
 unfolding entriesRight cellsOf cornersOf rising cornersRight inRange
 surveyChecks tc tk =
     let cells = cellsOf tc in
@@ -80,7 +69,7 @@ surveyChecks tc tk =
     (1, badTable 4 8196 tc) ∷
     (2, badTable 10 48720 tk) ∷
     (3, not (entriesRight 0 0 (entries tc))) ∷
-    (4, any tooDeep cells) ∷
+    (4, any (λ c. c .split && eqb (c .level) 0) cells) ∷
     (5, not (rising places)) ∷
     (6, not (cornersRight cells places)) ∷
     (7, any (λ k. not (inRange (k .sounding))) corners) ∷ []
@@ -91,11 +80,14 @@ unfolding surveyChecks
 surveyRefusal tc tk = firstOf (surveyChecks tc tk)
 
 -- the checks of the survey and the clearance
-unfoldable pub checks : List ℕ → List ℕ → Float → List Check
+unfoldable pub checks : List ℕ → List ℕ → Float → List (ℕ × Bool)
 unfolding surveyChecks inRange
 checks tc tk clearance = surveyChecks tc tk ++ (8, not (inRange clearance)) ∷ []
 
--- ---- drawing
+-- accepted: check 8 and every check before it find nothing to refuse
+unfoldable pub accepted : List ℕ → List ℕ → Float → Bool
+unfolding checks
+accepted tc tk clearance = eqb (firstOf (checks tc tk clearance)) 0
 
 -- the survey of two tables at a clearance, as the rules see it
 unfoldable pub surveyOf : List ℕ → List ℕ → Float → Survey
@@ -131,47 +123,36 @@ written new slice = new ++ drop (length new) slice
 
 -- drawing, of what the two slices hold before
 unfoldable pub draw : List ℕ → List ℕ → Float → List Float → List ℕ → Drawing
-unfolding checks surveyOf pointEdges allTriangles pointFloats triangleNumbers
+unfolding checks accepted surveyOf pointEdges allTriangles pointFloats triangleNumbers
 draw tc tk clearance ps ts =
     let s = surveyOf tc tk clearance in
     let n = length (pointEdges s) in
     let m = length (allTriangles s) in
-    let accepted = eqb (firstOf (checks tc tk clearance)) 0 in
     let number = firstOf (checks tc tk clearance ++ (9, ltb (length ps) (3 * n)) ∷ (10, ltb (length ts) (3 * m)) ∷ []) in
     let newPoints = written (pointFloats tc tk clearance) ps in
     let newTriangles = written (triangleNumbers tc tk clearance) ts in
     record {
-      result = record { number = number; points = cond accepted n 0; triangles = cond accepted m 0 };
+      result = record { number = number; points = cond (accepted tc tk clearance) n 0; triangles = cond (accepted tc tk clearance) m 0 };
       points = cond (eqb number 0) newPoints ps;
       triangles = cond (eqb number 0) newTriangles ts;
     }
-
--- ---- the edge enquiry
-
-abbrev pub axisOf : ℕ → Axis
-axisOf zero = X
-axisOf (suc zero) = Y
-axisOf (suc (suc n)) = Z
 
 -- the level of an edge of this length, or 11, which no edge has
 abbrev pub levelOf : ℕ → ℕ
 levelOf length = first (λ l. eqb (2 ^ l) length) 11 (count 0 11)
 
--- the enquiry's answer as the declared enum
-unfoldable pub found : Bool → ℕ → Spot → Edge
-found isOdd n s = cond isOdd (Crossing n (s .x) (s .y) (s .z)) Even
-
--- by axis, lower end and length
+-- the edge enquiry, by axis, lower end and length
 unfoldable pub enquiry : List ℕ → List ℕ → Float → ℕ → Place → ℕ → Answer
-unfolding checks surveyOf cellsOf cornersOf wetAt isEdge odd carrier numberOf spotOn found
+unfolding checks surveyOf cellsOf cornersOf wetAt isEdge odd carrier numberOf spotOn
 enquiry tc tk clearance axis p length =
     let s = surveyOf tc tk clearance in
     let a = axisOf axis in
     let l = levelOf length in
     let number = firstOf (checks tc tk clearance ++ (11, not (ltb axis 3 && isEdge (s .cells) a p l)) ∷ []) in
     let e = carrier s a p l in
-    let answer = Found (found (odd (s .isWet) a p l) (numberOf s e) (spotOn (cornersOf tk) clearance e)) in
-    cond (eqb number 0) answer (Refused number)
+    let place = spotOn (cornersOf tk) clearance e in
+    let answer = cond (odd (s .isWet) a p l) (Crossing (numberOf s e) (place .x) (place .y) (place .z)) Even in
+    cond (eqb number 0) (Found answer) (Refused number)
 
 -- Document 01's words for each case of the enums. The number returned: a refusal's, or 0.
 abbrev pub returned : Answer → ℕ

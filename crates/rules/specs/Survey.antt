@@ -1,83 +1,16 @@
--- Document 01, "The survey": places, both tables, the cells by record number, the corners, wetness.
+-- Document 01, "The survey": both tables, the cells by record number, the corners, wetness. The box runs from 0 to 1,024 on each axis.
 -- The document speaks of depths; here a cell of depth d has the level 10 - d, and its size is 2 ^ level.
--- Assumes nothing.
-use Prim.Native.Nat.{ℕ, pred, _+_, _-_, _*_, _/_, _^_}
-use mathlib.Core.Bool.{Bool, true, false, not, _&&_, cond}
+use Prim.Native.Nat.{ℕ, pred, _*_, _/_, _^_}
+use mathlib.Core.Bool.{Bool, false, not, cond}
 use mathlib.Core.List.{List, [], _∷_, _++_, map}
 use lib.Dec.{eqb}
-use lib.ListN.{length, take, drop}
+use lib.ListN.{length}
 use lib.IntN.{pos}
 use lib.Ieee.{Float, fin, binary32, ofBits, le}
-use Rattle.base.specs.Lists.{first, collect, count}
+use Rattle.base.specs.Lists.{first, count, little, bytes}
+use Rattle.base.specs.Grid.{Place, origin, Axis, same, octants}
 use Rattle.rules.specs.declared.Corner.{Corner}
 use Rattle.rules.specs.declared.Leaf.{Leaf}
-
--- ---- places
-
--- a place of the box, which runs from 0 to 1,024 on x, y and z
-pub record Place : Type 0 where
-  pub x : ℕ
-  pub y : ℕ
-  pub z : ℕ
-
-abbrev pub origin : Place
-origin = record { x = 0; y = 0; z = 0 }
-
-pub data Axis : Type 0 where
-  X Y Z : Axis
-
-abbrev pub axes : List Axis
-axes = X ∷ Y ∷ Z ∷ []
-
--- x, y, z in turn: after z comes x again
-abbrev pub next : Axis → Axis
-next X = Y
-next Y = Z
-next Z = X
-
--- the coordinate on an axis
-abbrev pub along : Axis → Place → ℕ
-along X p = p .x
-along Y p = p .y
-along Z p = p .z
-
--- a place with another coordinate on an axis
-abbrev pub put : Axis → ℕ → Place → Place
-put X v p = record { x = v; y = p .y; z = p .z }
-put Y v p = record { x = p .x; y = v; z = p .z }
-put Z v p = record { x = p .x; y = p .y; z = v }
-
--- a place moved up by d on an axis
-abbrev pub move : Axis → ℕ → Place → Place
-move a d p = put a (along a p + d) p
-
--- a place moved down by d on an axis
-abbrev pub back : Axis → ℕ → Place → Place
-back a d p = put a (along a p - d) p
-
-abbrev pub same : Place → Place → Bool
-same p q = eqb (p .x) (q .x) && (eqb (p .y) (q .y) && eqb (p .z) (q .z))
-
--- a place, and the one s above it on an axis
-abbrev pub pair : Axis → ℕ → Place → List Place
-pair a s p = p ∷ move a s p ∷ []
-
--- the eight corners of a cube of size s, in the order of children: bit 0 of a corner's number is the upper one of x, bit 1 of y, bit 2 of z
-abbrev pub octants : ℕ → Place → List Place
-octants s p = collect (pair X s) (collect (pair Y s) (pair Z s p))
-
--- ---- bytes
-
--- a little-endian number
-abbrev pub little : List ℕ → ℕ
-little [] = 0
-little (b ∷ bs) = b + 256 * little bs
-
--- n bytes of a table, from byte i on
-abbrev pub bytes : List ℕ → ℕ → ℕ → List ℕ
-bytes t i n = take n (drop i t)
-
--- ---- the cell table
 
 -- the entry of record k, 4 bytes
 abbrev pub entry : List ℕ → ℕ → ℕ
@@ -118,8 +51,6 @@ unfoldable pub cellsOf : List ℕ → List Cell
 unfolding cellsFrom
 cellsOf t = cellsFrom (entries t) (cell origin 10 false ∷ [])
 
--- ---- the corner table
-
 -- record k, 10 bytes: x, y, z, then the sounding
 unfoldable pub cornerRecord : List ℕ → ℕ → Corner
 unfolding ofBits
@@ -142,8 +73,6 @@ cornerAt cs p = first (λ c. same p (placeOf c)) (record { x = p .x; y = p .y; z
 unfoldable pub leafOf : List Corner → Cell → Leaf
 unfolding cornerAt
 leafOf cs c = record { corners = map (cornerAt cs) (cellCorners c) }
-
--- ---- wetness
 
 -- wet: the sounding is at least the clearance
 unfoldable pub wet : Float → Corner → Bool
