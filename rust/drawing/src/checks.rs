@@ -1,0 +1,116 @@
+//! Checks 1 to 8, in rising number: document 01, "Outputs and refusals".
+
+use crate::refusal::Refusal;
+use crate::survey::{corner_at, offset, Cell, Corner, Survey, DEEPEST};
+
+const CELL_RECORD: usize = 4;
+const MOST_CELLS: usize = 2_049;
+const CORNER_RECORD: usize = 10;
+const MOST_CORNERS: usize = 4_872;
+const RANGE: f32 = 1_048_576.0;
+
+/// Reads a survey from its two tables: checks 1 to 7.
+pub(crate) fn read(cells: &[u8], corners: &[u8]) -> Result<Survey, Refusal> {
+    refuse_unless(holds_records(cells, CELL_RECORD, MOST_CELLS), Refusal::CellBytes)?;
+    refuse_unless(holds_records(corners, CORNER_RECORD, MOST_CORNERS), Refusal::CornerBytes)?;
+    let entries: Vec<usize> = cells.chunks_exact(CELL_RECORD).map(entry).collect();
+    refuse_unless(entries_follow_rule(&entries), Refusal::CellEntry)?;
+    let cells = place_cells(&entries)?;
+    let corners: Vec<Corner> = corners.chunks_exact(CORNER_RECORD).map(corner).collect();
+    let rising = corners.windows(2).all(|pair| pair[0].rank() < pair[1].rank());
+    refuse_unless(rising, Refusal::CornerOrder)?;
+    let cell_corners = match_corners(&cells, &corners)?;
+    let sounded = corners.iter().all(|corner| in_range(corner.sounding));
+    refuse_unless(sounded, Refusal::Sounding)?;
+    Ok(Survey { cells, corners, cell_corners })
+}
+
+/// Check 8.
+pub(crate) fn clearance(clearance: f32) -> Result<(), Refusal> {
+    refuse_unless(in_range(clearance), Refusal::Clearance)
+}
+
+fn refuse_unless(lawful: bool, refusal: Refusal) -> Result<(), Refusal> {
+    if lawful {
+        Ok(())
+    } else {
+        Err(refusal)
+    }
+}
+
+fn holds_records(table: &[u8], record: usize, most: usize) -> bool {
+    !table.is_empty() && table.len().is_multiple_of(record) && table.len() / record <= most
+}
+
+fn entry(record: &[u8]) -> usize {
+    u32::from_le_bytes([record[0], record[1], record[2], record[3]]) as usize
+}
+
+fn corner(record: &[u8]) -> Corner {
+    let coordinate = |axis: usize| u16::from_le_bytes([record[2 * axis], record[2 * axis + 1]]);
+    Corner {
+        place: [coordinate(0), coordinate(1), coordinate(2)],
+        sounding: f32::from_le_bytes([record[6], record[7], record[8], record[9]]),
+    }
+}
+
+/// A NaN is in no range, since no comparison with it holds.
+fn in_range(number: f32) -> bool {
+    number.abs() <= RANGE
+}
+
+/// Check 3: the split record with k split records before it holds 1 + 8k, greater than its own number, and
+/// the table ends with the children of the last one.
+fn entries_follow_rule(entries: &[usize]) -> bool {
+    let mut end = 1;
+    for (record, &entry) in entries.iter().enumerate() {
+        if entry == 0 {
+            continue;
+        }
+        if entry != end || entry <= record {
+            return false;
+        }
+        end += 8;
+    }
+    entries.len() == end
+}
+
+/// Check 4. By check 3 the children of the split records, one after another, are the records 1, 2, 3 and on,
+/// and each comes after its parent; so cells are placed by appending.
+fn place_cells(entries: &[usize]) -> Result<Vec<Cell>, Refusal> {
+    let mut cells = Vec::with_capacity(entries.len());
+    cells.push(Cell { low: [0; 3], level: 0, first_child: None });
+    for (record, &entry) in entries.iter().enumerate() {
+        if entry == 0 {
+            continue;
+        }
+        let parent: &mut Cell = &mut cells[record];
+        refuse_unless(parent.level < DEEPEST, Refusal::TooDeep)?;
+        parent.first_child = Some(entry);
+        let Cell { low, level, .. } = *parent;
+        let half = cells[record].size() / 2;
+        cells.extend((0..8).map(|place| Cell {
+            low: offset(low, place, half),
+            level: level + 1,
+            first_child: None,
+        }));
+    }
+    Ok(cells)
+}
+
+/// Check 6: finds the records of every cell's corners, and sees that no record is left over.
+fn match_corners(cells: &[Cell], corners: &[Corner]) -> Result<Vec<[u16; 8]>, Refusal> {
+    let mut met = vec![false; corners.len()];
+    let mut cell_corners = Vec::with_capacity(cells.len());
+    for cell in cells {
+        let mut records = [0; 8];
+        for (place, slot) in records.iter_mut().enumerate() {
+            let record = corner_at(corners, cell.corner(place)).ok_or(Refusal::CornerSet)?;
+            met[record] = true;
+            *slot = record as u16;
+        }
+        cell_corners.push(records);
+    }
+    refuse_unless(met.iter().all(|&met| met), Refusal::CornerSet)?;
+    Ok(cell_corners)
+}

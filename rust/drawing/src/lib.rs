@@ -1,0 +1,91 @@
+//! Clearance surfaces over a lock survey: a drawing of the rules of document 01.
+//!
+//! A survey is a cell table (an octree) and a corner table (a sounding at every corner of every cell). At a
+//! given clearance the surface between wet and dry corners is drawn as points on the octree's edges and
+//! triangles between them. The method is that of document 003: edge-trees over an arbitrary octree.
+//!
+//! The modules follow the way of the data: [`check`] reads a survey; edge-trees are built over its cells;
+//! crossing points are numbered on them; face steps and twin steps make the loops of each leaf; loops are cut
+//! into triangles.
+
+mod checks;
+mod crossings;
+mod edges;
+mod faces;
+mod loops;
+mod outputs;
+mod refusal;
+mod survey;
+
+use crossings::Crossings;
+use edges::EdgeTrees;
+pub use outputs::{Drawing, Drawn};
+use refusal::Refusal;
+
+/// The answer to an edge enquiry: document 01, "Edges, points and places".
+#[derive(Clone, Copy, Debug, PartialEq)]
+pub enum Edge {
+    /// Both ends are wet or both are dry.
+    Even,
+    /// One end is wet and one is dry.
+    Crossing {
+        /// The number of the edge's point.
+        number: u32,
+        /// Where the point is: x, y and z.
+        place: [f32; 3],
+    },
+}
+
+/// Checks a survey by itself: 0 if lawful, else the first refusal of 1 to 7 that applies.
+pub fn check(cells: &[u8], corners: &[u8]) -> u32 {
+    checks::read(cells, corners).map_or_else(Refusal::number, |_| 0)
+}
+
+/// Answers for the edge of some cell that runs along `axis` from (x, y, z) over `length`.
+///
+/// The refusals are 1 to 8, then 11 where no cell has this edge.
+#[allow(clippy::too_many_arguments)] // the arguments of document 01's enquiry, each a plain number
+pub fn enquire(
+    cells: &[u8],
+    corners: &[u8],
+    clearance: f32,
+    axis: u32,
+    x: u32,
+    y: u32,
+    z: u32,
+    length: u32,
+) -> Result<Edge, u32> {
+    let answer = || {
+        let survey = checks::read(cells, corners)?;
+        checks::clearance(clearance)?;
+        let trees = EdgeTrees::over(&survey);
+        let edge = trees.find_by_place(&survey, axis, [x, y, z], length).ok_or(Refusal::NoEdge)?;
+        let crossings = Crossings::on(&survey, &trees, clearance);
+        Ok(crossings
+            .point_of(edge)
+            .map_or(Edge::Even, |number| Edge::Crossing { number, place: crossings.place(number) }))
+    };
+    answer().map_err(Refusal::number)
+}
+
+/// Draws the surface into lent slices: document 01, "Outputs and refusals".
+///
+/// Points take three elements each, triangles three each; elements past the last are untouched. A refusal
+/// (1 to 10) touches neither slice.
+pub fn draw(
+    cells: &[u8],
+    corners: &[u8],
+    clearance: f32,
+    points: &mut [f32],
+    triangles: &mut [u32],
+) -> Drawn {
+    match outputs::drawing(cells, corners, clearance) {
+        Ok(drawing) => drawing.write(points, triangles),
+        Err(refusal) => Drawn::refused(refusal),
+    }
+}
+
+/// Draws the surface into vectors of its own. The refusals are 1 to 8.
+pub fn draw_to_vec(cells: &[u8], corners: &[u8], clearance: f32) -> Result<Drawing, u32> {
+    outputs::drawing(cells, corners, clearance).map_err(Refusal::number)
+}

@@ -1,0 +1,76 @@
+//! Points and triangles as they are handed over: document 01, "Outputs and refusals".
+
+use crate::checks;
+use crate::crossings::Crossings;
+use crate::edges::EdgeTrees;
+use crate::loops::LoopWalk;
+use crate::refusal::Refusal;
+
+/// A drawn surface.
+#[derive(Clone, Debug, Default, PartialEq)]
+pub struct Drawing {
+    /// x, y and z of each point.
+    pub points: Vec<f32>,
+    /// The three point numbers of each triangle.
+    pub triangles: Vec<u32>,
+}
+
+/// The result of drawing into lent slices.
+#[derive(Clone, Copy, Debug, PartialEq, Eq)]
+pub struct Drawn {
+    /// 0 if drawn, else the refusal.
+    pub number: u32,
+    /// How many points there are; 0 with refusals 1 to 8.
+    pub points: u32,
+    /// How many triangles there are; 0 with refusals 1 to 8.
+    pub triangles: u32,
+}
+
+impl Drawn {
+    /// Refusals 1 to 8 give no counts.
+    pub(crate) fn refused(refusal: Refusal) -> Drawn {
+        Drawn { number: refusal.number(), points: 0, triangles: 0 }
+    }
+}
+
+/// Draws a survey at a clearance: checks 1 to 8, then all points and all triangles.
+pub(crate) fn drawing(cells: &[u8], corners: &[u8], clearance: f32) -> Result<Drawing, Refusal> {
+    let survey = checks::read(cells, corners)?;
+    checks::clearance(clearance)?;
+    let trees = EdgeTrees::over(&survey);
+    let crossings = Crossings::on(&survey, &trees, clearance);
+    let points = (0..crossings.count() as u32).flat_map(|point| crossings.place(point)).collect();
+    let mut triangles = Vec::new();
+    let mut walk = LoopWalk::over(&crossings);
+    for (record, cell) in survey.cells.iter().enumerate() {
+        if cell.first_child.is_none() {
+            walk.leaf_loops(record, |points| triangles.extend(fan(points)));
+        }
+    }
+    Ok(Drawing { points, triangles })
+}
+
+/// The triangles of a loop: from its first point to each two that follow one another.
+fn fan(points: &[u32]) -> impl Iterator<Item = u32> + '_ {
+    points[1..].windows(2).flat_map(|pair| [points[0], pair[0], pair[1]])
+}
+
+impl Drawing {
+    /// Checks 9 and 10, then fills the lent slices from the front.
+    pub(crate) fn write(&self, points: &mut [f32], triangles: &mut [u32]) -> Drawn {
+        let drawn = |number| Drawn {
+            number,
+            points: self.points.len() as u32 / 3,
+            triangles: self.triangles.len() as u32 / 3,
+        };
+        if points.len() < self.points.len() {
+            return drawn(Refusal::PointSlice.number());
+        }
+        if triangles.len() < self.triangles.len() {
+            return drawn(Refusal::TriangleSlice.number());
+        }
+        points[..self.points.len()].copy_from_slice(&self.points);
+        triangles[..self.triangles.len()].copy_from_slice(&self.triangles);
+        drawn(0)
+    }
+}

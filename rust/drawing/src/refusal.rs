@@ -1,0 +1,36 @@
+//! The refusals of document 01's table, by name.
+
+/// Why a survey, a clearance, a lent slice or an edge is refused. Checks run in rising number.
+#[derive(Clone, Copy, Debug, PartialEq, Eq)]
+#[repr(u32)]
+pub(crate) enum Refusal {
+    /// The cell table is empty, not whole records, or too long.
+    CellBytes = 1,
+    /// The corner table is empty, not whole records, or too long.
+    CornerBytes = 2,
+    /// A cell entry or the record count breaks the rule of the cell table.
+    CellEntry = 3,
+    /// A cell of depth 10 is split.
+    TooDeep = 4,
+    /// Corner records don't rise strictly.
+    CornerOrder = 5,
+    /// A cell's corner is missing, or a record is no cell's corner.
+    CornerSet = 6,
+    /// A sounding is not finite or out of range.
+    Sounding = 7,
+    /// The clearance is not finite or out of range.
+    Clearance = 8,
+    /// The point slice is too short.
+    PointSlice = 9,
+    /// The triangle slice is too short.
+    TriangleSlice = 10,
+    /// No cell has the edge asked about.
+    NoEdge = 11,
+}
+
+impl Refusal {
+    /// The number that the table gives for this refusal.
+    pub(crate) fn number(self) -> u32 {
+        self as u32
+    }
+}

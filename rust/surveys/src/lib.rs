@@ -1,0 +1,21 @@
+//! Surveys to draw, and plain readings of document 01 to judge a drawing by.
+//!
+//! - [`document`]: the surveys of document 01 and a few small ones, with what is known of their drawings.
+//! - [`generate`]: random lawful surveys, each from one seed.
+//! - [`damage`]: random damaged surveys, each with the refusal it must meet.
+//! - [`refusals`], [`plain`], [`closing`]: document 01's checks, its edges and points, and its section "What
+//!   closing says", written for the reader and not for speed, and with nothing shared with any drawing.
+
+pub mod closing;
+pub mod damage;
+pub mod document;
+pub mod generate;
+mod long_loop;
+pub mod plain;
+pub mod random;
+pub mod refusals;
+mod soundings;
+pub mod survey;
+mod trees;
+
+pub use survey::Survey;

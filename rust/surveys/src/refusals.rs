@@ -1,0 +1,52 @@
+//! Checks 1 to 8 in the words of document 01, "Outputs and refusals". Nothing here is fast.
+
+use crate::plain::{corners, entries, octree};
+use crate::survey::DEEPEST;
+use crate::Survey;
+
+/// The first of checks 1 to 8 that refuses a survey; 0 if none does.
+pub fn first(survey: &Survey) -> u32 {
+    let refuses: [fn(&Survey) -> bool; 8] = [
+        |survey| survey.cells.is_empty() || survey.cells.len() % 4 != 0 || survey.cells.len() > 8_196,
+        |survey| survey.corners.is_empty() || survey.corners.len() % 10 != 0 || survey.corners.len() > 48_720,
+        |survey| breaks_entry_rule(&entries(&survey.cells).collect::<Vec<_>>()),
+        |survey| splits_too_deep(&entries(&survey.cells).collect::<Vec<_>>(), 0, 0),
+        falls_or_stays,
+        other_corners,
+        |survey| corners(&survey.corners).any(|(_, sounding)| out_of_range(sounding)),
+        |survey| out_of_range(survey.clearance),
+    ];
+    (1..=8).find(|&number| refuses[number - 1](survey)).map_or(0, |number| number as u32)
+}
+
+fn breaks_entry_rule(entries: &[usize]) -> bool {
+    let splits_before = |record: usize| entries[..record].iter().filter(|&&entry| entry != 0).count();
+    let breaks = |record: usize| {
+        let entry = entries[record];
+        entry != 0 && (entry != 1 + 8 * splits_before(record) || entry <= record)
+    };
+    entries.len() != 1 + 8 * splits_before(entries.len()) || (0..entries.len()).any(breaks)
+}
+
+fn splits_too_deep(entries: &[usize], record: usize, depth: u32) -> bool {
+    match entries[record] {
+        0 => false,
+        _ if depth == DEEPEST => true,
+        first => (first..first + 8).any(|child| splits_too_deep(entries, child, depth + 1)),
+    }
+}
+
+fn falls_or_stays(survey: &Survey) -> bool {
+    let places: Vec<[u16; 3]> = corners(&survey.corners).map(|([x, y, z], _)| [z, y, x]).collect();
+    places.windows(2).any(|pair| pair[0] >= pair[1])
+}
+
+/// Both sides come in the same order, since check 5 has passed.
+fn other_corners(survey: &Survey) -> bool {
+    let places: Vec<[u16; 3]> = corners(&survey.corners).map(|(place, _)| place).collect();
+    places != octree(&survey.cells).corner_places()
+}
+
+fn out_of_range(number: f32) -> bool {
+    !number.is_finite() || !(-1_048_576.0..=1_048_576.0).contains(&number)
+}
