@@ -1,1 +1,15 @@
 pub mod Lawful
+pub mod Cells
+pub mod Queue
+pub mod Covers
+pub mod Tree
+pub mod Accepted
+pub mod Records
+pub mod Rising
+pub mod Edges
+pub mod Points
+pub mod Aligned
+pub mod Halves
+pub mod Levels
+pub mod Inside
+pub mod Leaves

@@ -1,0 +1,6 @@
+pub mod Tests
+pub mod Lists
+pub mod Sums
+pub mod Places
+pub mod Octants
+pub mod Counts

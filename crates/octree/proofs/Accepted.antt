@@ -1,0 +1,153 @@
+-- What each check gives where it finds nothing to refuse; and an accepted survey is lawful.
+use Prim.Native.Nat.{ℕ, _^_}
+use mathlib.Core.Path.{_≡_, refl, sym, ap, _∙_, subst}
+use mathlib.Core.Logic.{_⊎_, inl, inr}
+use mathlib.Core.Bool.{Bool, true, false, not, _&&_, cond}
+use mathlib.Core.List.{List, [], _∷_, _++_, map}
+use native.Mathlib.Omega.{arith}
+use lib.Dec.{T, T-not, eqb, eqb→eq}
+use lib.Ieee.{Float}
+use Rattle.base.specs.Lists.{any, all}
+use Rattle.base.specs.Grid.{Place, same, octants}
+use Rattle.rules.specs.Survey.{Cell, cell, size, entries, cellsOf, cellCorners, cornersOf, placeOf}
+use Rattle.rules.specs.Outputs.{badTable, entriesRight, rising, cornersRight, inRange, firstOf, surveyChecks, surveyRefusal, checks, accepted, surveyOf}
+use Rattle.rules.specs.declared.Corner.{Corner}
+use Rattle.base.proofs.Tests.{and→, either, not-both, eq→eqb, →true, →false}
+use Rattle.base.proofs.Lists.{In, any→in, in→any, all→in}
+use Rattle.base.proofs.Places.{same→}
+use Rattle.base.proofs.Octants.{octant→, →octant}
+use Rattle.octree.proofs.Lawful.{isCell, CornerOf, Lawful}
+use Rattle.octree.proofs.Cells.{cell→, →cell}
+use Rattle.octree.proofs.Tree.{octree-of}
+
+-- ---- the first check that applies
+
+-- no check has the number 0
+abbrev pub numbered : List (ℕ × Bool) → Bool
+numbered ts = all (λ t. not (eqb (t .0) 0)) ts
+
+-- where the first check that applies has the number 0, none applies
+pub none-applies : (ts : List (ℕ × Bool)) → T (numbered ts) → firstOf ts ≡ 0 → (t : ℕ × Bool) → In t ts → t .1 ≡ false
+none-applies [] n h t i = absurd i
+none-applies (u ∷ ts) n h t i = go (u .1) refl h i (none-applies ts (and→ (not (eqb (u .0) 0)) (numbered ts) n .1))
+  where
+    go : (b : Bool) → u .1 ≡ b → cond b (u .0) (firstOf ts) ≡ 0 → In t (u ∷ ts) → (firstOf ts ≡ 0 → (v : ℕ × Bool) → In v ts → v .1 ≡ false) → t .1 ≡ false
+    go true e h i r = absurd (T-not (eqb (u .0) 0) (and→ (not (eqb (u .0) 0)) (numbered ts) n .0) (eq→eqb (u .0) 0 h))
+    go false e h (inl p) r = ap (λ (v : ℕ × Bool). v .1) p ∙ e
+    go false e h (inr j) r = r h t j
+
+-- checks, and then further ones
+pub first-append : (ts us : List (ℕ × Bool)) → T (numbered ts) → firstOf (ts ++ us) ≡ cond (eqb (firstOf ts) 0) (firstOf us) (firstOf ts)
+first-append [] us n = refl
+first-append (t ∷ ts) us n = go (t .1) (first-append ts us (and→ (not (eqb (t .0) 0)) (numbered ts) n .1))
+  where
+    other : (b : Bool) → T (not b) → t .0 ≡ cond b (firstOf us) (t .0)
+    other true f = absurd f
+    other false f = refl
+
+    go : (b : Bool) → firstOf (ts ++ us) ≡ cond (eqb (firstOf ts) 0) (firstOf us) (firstOf ts) →
+        cond b (t .0) (firstOf (ts ++ us)) ≡ cond (eqb (cond b (t .0) (firstOf ts)) 0) (firstOf us) (cond b (t .0) (firstOf ts))
+    go true ih = other (eqb (t .0) 0) (and→ (not (eqb (t .0) 0)) (numbered ts) n .0)
+    go false ih = ih
+
+-- ---- what each check gives
+
+-- what a survey that checks 1 to 7 pass has
+pub record Checked (tc tk : List ℕ) : Type 0 where
+  pub cell-table : badTable 4 8196 tc ≡ false
+  pub corner-table : badTable 10 48720 tk ≡ false
+  pub entries-right : T (entriesRight 0 0 (entries tc))
+  pub units-whole : T (not (any (λ c. c .split && eqb (c .level) 0) (cellsOf tc)))
+  pub rises : T (rising (map placeOf (cornersOf tk)))
+  pub corners-right : T (cornersRight (cellsOf tc) (map placeOf (cornersOf tk)))
+  pub soundings : (k : Corner) → In k (cornersOf tk) → T (inRange (k .sounding))
+
+passed : (b : Bool) → not b ≡ false → T b
+passed true e = tt
+passed false e = absurd (subst T e tt)
+
+none-of : {A : Type 0} (f : A → Bool) (xs : List A) → any (λ x. not (f x)) xs ≡ false → (x : A) → In x xs → T (f x)
+none-of f xs e x i = go (either (f x))
+  where
+    go : T (f x) ⊎ (f x ≡ false) → T (f x)
+    go (inl t) = t
+    go (inr g) = absurd (subst T e (in→any (λ y. not (f y)) xs x i (→false g)))
+
+pub checked : (tc tk : List ℕ) → surveyRefusal tc tk ≡ 0 → Checked tc tk
+unfolding surveyRefusal surveyChecks
+checked tc tk h =
+    let passes : (t : ℕ × Bool) → In t (surveyChecks tc tk) → t .1 ≡ false = none-applies (surveyChecks tc tk) tt h in
+    record {
+      cell-table = passes (1, badTable 4 8196 tc) (inl refl);
+      corner-table = passes (2, badTable 10 48720 tk) (inr (inl refl));
+      entries-right = passed (entriesRight 0 0 (entries tc)) (passes (3, not (entriesRight 0 0 (entries tc))) (inr (inr (inl refl))));
+      units-whole = →false (passes (4, any (λ c. c .split && eqb (c .level) 0) (cellsOf tc)) (inr (inr (inr (inl refl)))));
+      rises = passed (rising (map placeOf (cornersOf tk))) (passes (5, not (rising (map placeOf (cornersOf tk)))) (inr (inr (inr (inr (inl refl))))));
+      corners-right = passed (cornersRight (cellsOf tc) (map placeOf (cornersOf tk)))
+          (passes (6, not (cornersRight (cellsOf tc) (map placeOf (cornersOf tk)))) (inr (inr (inr (inr (inr (inl refl)))))));
+      soundings = none-of (λ (k : Corner). inRange (k .sounding)) (cornersOf tk)
+          (passes (7, any (λ k. not (inRange (k .sounding))) (cornersOf tk)) (inr (inr (inr (inr (inr (inr (inl refl))))))));
+    }
+
+-- accepted is: no refusal of the survey by itself, and the clearance in range
+accepted-is : (tc tk : List ℕ) (clearance : Float) →
+    firstOf (checks tc tk clearance) ≡ cond (eqb (surveyRefusal tc tk) 0) (cond (not (inRange clearance)) 8 0) (surveyRefusal tc tk)
+unfolding checks surveyRefusal
+accepted-is tc tk clearance = first-append (surveyChecks tc tk) ((8, not (inRange clearance)) ∷ []) (unfold surveyChecks in tt)
+
+pub accepted→ : (tc tk : List ℕ) (clearance : Float) → T (accepted tc tk clearance) → (surveyRefusal tc tk ≡ 0) × T (inRange clearance)
+unfolding accepted
+accepted→ tc tk clearance t =
+    go (surveyRefusal tc tk) (eqb (surveyRefusal tc tk) 0) refl (inRange clearance)
+    (sym (accepted-is tc tk clearance) ∙ eqb→eq (firstOf (checks tc tk clearance)) 0 t)
+  where
+    go : (n : ℕ) (b : Bool) → eqb n 0 ≡ b → (r : Bool) → cond b (cond (not r) 8 0) n ≡ 0 → (n ≡ 0) × T r
+    go n true e true h = (eqb→eq n 0 (→true e), tt)
+    go n true e false h = absurd (omega arith)
+    go n false e r h = absurd (not-both (eq→eqb n 0 h) e)
+
+pub →accepted : (tc tk : List ℕ) (clearance : Float) → surveyRefusal tc tk ≡ 0 → T (inRange clearance) → T (accepted tc tk clearance)
+unfolding accepted
+→accepted tc tk clearance h t = eq→eqb (firstOf (checks tc tk clearance)) 0 (accepted-is tc tk clearance ∙ go (surveyRefusal tc tk) (inRange clearance) h t)
+  where
+    go : (n : ℕ) (r : Bool) → n ≡ 0 → T r → cond (eqb n 0) (cond (not r) 8 0) n ≡ 0
+    go n true h t = subst (λ m. cond (eqb m 0) 0 m ≡ 0) (sym h) refl
+    go n false h t = absurd t
+
+-- ---- the laws of an accepted survey
+
+corner-listed : (cells : List Cell) (ps : List Place) → T (cornersRight cells ps) →
+    (l : ℕ) (p q : Place) → T (isCell cells l p) → CornerOf l p q → T (any (same q) ps)
+unfolding cornersRight
+corner-listed cells ps t l p q h f =
+    let u = and→ (all (λ c. all (λ p. any (same p) ps) (cellCorners c)) cells) (all (λ p. any (λ c. any (same p) (cellCorners c)) cells) ps) t .0 in
+    let r = cell→ cells l p h in
+    all→in (λ p. any (same p) ps) (octants (2 ^ l) p) (all→in (λ c. all (λ p. any (same p) ps) (cellCorners c)) cells u (cell p l (r .0)) (r .1)) q
+    (→octant (2 ^ l) p q f)
+
+listed-corner : (cells : List Cell) (ps : List Place) → T (cornersRight cells ps) → (q : Place) → T (any (same q) ps) →
+    (l : ℕ) × (p : Place) × T (isCell cells l p) × CornerOf l p q
+unfolding cornersRight
+listed-corner cells ps t q h =
+    let u = and→ (all (λ c. all (λ p. any (same p) ps) (cellCorners c)) cells) (all (λ p. any (λ c. any (same p) (cellCorners c)) cells) ps) t .1 in
+    let r = any→in (same q) ps h in
+    let i : In q ps = subst (λ x. In x ps) (sym (same→ q (r .0) (r .2))) (r .1) in
+    let c = any→in (λ c. any (same q) (cellCorners c)) cells (all→in (λ p. any (λ c. any (same p) (cellCorners c)) cells) ps u q i) in
+    let o = any→in (same q) (cellCorners (c .0)) (c .2) in (
+      c .0 .level,
+      c .0 .low,
+      →cell cells (c .0) (c .1),
+      octant→ (size (c .0)) (c .0 .low) q (subst (λ x. In x (cellCorners (c .0))) (sym (same→ q (o .0) (o .2))) (o .1)),
+    )
+
+pub checked-lawful : (tc tk : List ℕ) (clearance : Float) → Checked tc tk → Lawful (surveyOf tc tk clearance)
+unfolding surveyOf
+checked-lawful tc tk clearance c = record {
+  octree = octree-of tc (c .entries-right) (c .units-whole);
+  rises = c .rises;
+  listed = corner-listed (cellsOf tc) (map placeOf (cornersOf tk)) (c .corners-right);
+  corner = listed-corner (cellsOf tc) (map placeOf (cornersOf tk)) (c .corners-right);
+}
+
+pub lawful : (tc tk : List ℕ) (clearance : Float) → T (accepted tc tk clearance) → Lawful (surveyOf tc tk clearance)
+lawful tc tk clearance t = checked-lawful tc tk clearance (checked tc tk (accepted→ tc tk clearance t .0))
