@@ -4,19 +4,18 @@
 --     any-has                        a sum that is not 0, of which only elements that pass a test have a share
 -- Assumes nothing.
 use mathlib.Core.Path.{_≡_, refl, sym, ap}
-use mathlib.Core.Logic.{_⊎_, inl, inr}
 use mathlib.Core.Bool.{Bool, true, false, _||_}
 use mathlib.Core.List.{List, [], _∷_}
 use Prim.Native.Nat.{ℕ, zero, suc, _+_, _≤_}
 use native.Mathlib.Nat.{le-antisymm}
 use native.Mathlib.Omega.{arith}
 use native.Mathlib.Decide.{ℕ-discrete}
-use lib.Dec.{eqb, eqb→eq, eqb-refl, T}
+use lib.Dec.{eqb, eqb→eq, T}
 use lib.ListN.{length}
 use borrow.Author.Tests.{eq-eqb, ne-eqb}
 use Rattle.base.specs.Lists.{sum, any, count, bit}
 use Rattle.base.proofs.Lists.{In}
-use Rattle.base.proofs.Sums.{times, in-times, times-in}
+use Rattle.base.proofs.Sums.{in-sum, times, times-in}
 
 -- 1 for equal numbers, else 0
 abbrev pub equal : ℕ → ℕ → ℕ
@@ -40,7 +39,7 @@ equal-le a b = go (eqb a b)
     go false = omega arith
 
 pub in-often : (x : ℕ) (l : List ℕ) → In x l → 1 ≤ often x l
-in-often = in-times eqb eqb-refl
+in-often x l i = omega (arith, in-sum (equal x) l x i, equal-eq x x refl)
 
 pub often-in : (x : ℕ) (l : List ℕ) → 1 ≤ often x l → In x l
 often-in = times-in eqb eqb→eq

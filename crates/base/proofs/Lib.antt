@@ -4,3 +4,4 @@ pub mod Sums
 pub mod Places
 pub mod Octants
 pub mod Counts
+pub mod Below

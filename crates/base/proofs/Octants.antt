@@ -1,10 +1,11 @@
 -- The eight corners of a cube, which are the lowest corners of the eight halves of the cube of twice the size; and the places in a cube.
-use Prim.Native.Nat.{ℕ, _+_, _*_, _≤_, _<_}
+use Prim.Native.Nat.{ℕ, zero, suc, _+_, _*_, _/_, _%_, _≤_, _<_}
 use mathlib.Core.Path.{_≡_, refl, sym, subst}
 use mathlib.Core.Logic.{_⊎_, inl, inr}
 use mathlib.Core.Bool.{Bool, true, false, _&&_}
 use native.Mathlib.Omega.{arith}
 use lib.Dec.{T, leb, ltb, leb→le, le→leb, ltb→lt, lt→ltb}
+use lib.ListN.{getD}
 use Rattle.base.specs.Lists.{sum, bit}
 use Rattle.base.specs.Grid.{Place, Axis, X, Y, Z, along, octants}
 use Rattle.base.proofs.Tests.{and→, →and, below, bit-true, bit-le}
@@ -48,6 +49,28 @@ pub →octant : (s : ℕ) (p q : Place) → Octant s p q → In q (octants s p)
     go (inr x) (inl y) (inr z) = inr (inr (inr (inr (inr (inl (at x y z))))))
     go (inl x) (inr y) (inr z) = inr (inr (inr (inr (inr (inr (inl (at x y z)))))))
     go (inr x) (inr y) (inr z) = inr (inr (inr (inr (inr (inr (inr (inl (at x y z))))))))
+
+-- the corner with a number from 0 to 7, by the bits of the number
+pub octant-at : (s : ℕ) (p : Place) (i : ℕ) → i < 8 → (d : Place) →
+    getD (octants s p) i d ≡ record { x = p .x + s * (i % 2); y = p .y + s * (i / 2 % 2); z = p .z + s * (i / 4 % 2) }
+octant-at s p i h d = go i h
+  where
+    place : ℕ → Place
+    place i = record { x = p .x + s * (i % 2); y = p .y + s * (i / 2 % 2); z = p .z + s * (i / 4 % 2) }
+
+    at : (q : Place) (i : ℕ) → q .x ≡ p .x + s * (i % 2) → q .y ≡ p .y + s * (i / 2 % 2) → q .z ≡ p .z + s * (i / 4 % 2) → q ≡ place i
+    at q i u v w = place-equal q (place i) (every-axis (λ a. along a q ≡ along a (place i)) X u v w)
+
+    go : (i : ℕ) → i < 8 → getD (octants s p) i d ≡ place i
+    go zero h = at (getD (octants s p) 0 d) 0 (omega arith) (omega arith) (omega arith)
+    go (suc zero) h = at (getD (octants s p) 1 d) 1 (omega arith) (omega arith) (omega arith)
+    go (suc (suc zero)) h = at (getD (octants s p) 2 d) 2 (omega arith) (omega arith) (omega arith)
+    go (suc (suc (suc zero))) h = at (getD (octants s p) 3 d) 3 (omega arith) (omega arith) (omega arith)
+    go (suc (suc (suc (suc zero)))) h = at (getD (octants s p) 4 d) 4 (omega arith) (omega arith) (omega arith)
+    go (suc (suc (suc (suc (suc zero))))) h = at (getD (octants s p) 5 d) 5 (omega arith) (omega arith) (omega arith)
+    go (suc (suc (suc (suc (suc (suc zero)))))) h = at (getD (octants s p) 6 d) 6 (omega arith) (omega arith) (omega arith)
+    go (suc (suc (suc (suc (suc (suc (suc zero))))))) h = at (getD (octants s p) 7 d) 7 (omega arith) (omega arith) (omega arith)
+    go (suc (suc (suc (suc (suc (suc (suc (suc n)))))))) h = absurd (omega arith)
 
 -- ---- how many of a cube's eight halves hold a place
 

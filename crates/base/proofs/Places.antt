@@ -1,6 +1,6 @@
 -- Places: facts for any axis.
 use Prim.Native.Nat.{ℕ, _+_, _≤_}
-use mathlib.Core.Path.{_≡_, refl, sym, ap, _∙_, subst}
+use mathlib.Core.Path.{_≡_, refl, sym, ap, _∙_}
 use mathlib.Core.Logic.{_⊎_, inl, inr}
 use mathlib.Core.List.{List}
 use mathlib.Core.Bool.{_&&_}
@@ -121,12 +121,6 @@ same-coordinates a p q h k = place-equal p q (every-axis (λ b. along b p ≡ al
 abbrev pub square : Axis → ℕ → Place → List Place
 square a s p = collect (pair (next a) s) (pair (next (next a)) s p)
 
--- q is a corner of the cube of size s at p, in its lower side on the axis
-abbrev pub Cornered : Axis → ℕ → Place → Place → Type 0
-Cornered a s p q =
-    (along a q ≡ along a p) × ((along (next a) q ≡ along (next a) p) ⊎ (along (next a) q ≡ along (next a) p + s)) ×
-    ((along (next (next a)) q ≡ along (next (next a)) p) ⊎ (along (next (next a)) q ≡ along (next (next a)) p + s))
-
 module _ (a : Axis) (s : ℕ) (p : Place) where
   u : ℕ
   u = along a p
@@ -155,26 +149,11 @@ module _ (a : Axis) (s : ℕ) (p : Place) where
     put-before a (along (next a) up + s) up ∙ up-at .2,
   )
 
-  pub square→ : (q : Place) → In q (square a s p) → Cornered a s p q
+  -- a corner of the cube of size s at p that lies in its lower side on the axis
+  pub →square : (q : Place) → along a q ≡ along a p → (along (next a) q ≡ along (next a) p) ⊎ (along (next a) q ≡ along (next a) p + s) →
+      (along (next (next a)) q ≡ along (next (next a)) p) ⊎ (along (next (next a)) q ≡ along (next (next a)) p + s) → In q (square a s p)
   unfolding u v w up
-  square→ q i = go i
-    where
-      is : {r : Place} → q ≡ r → Cornered a s p r → Cornered a s p q
-      is e c = subst (Cornered a s p) (sym e) c
-
-      go : In q (square a s p) → Cornered a s p q
-      go (inl e) = is e (refl, inl refl, inl refl)
-      go (inr (inl e)) = is e (right-at .0, inr (right-at .1), inl (right-at .2))
-      go (inr (inr (inl e))) = is e (up-at .0, inl (up-at .1), inr (up-at .2))
-      go (inr (inr (inr (inl e)))) = is e (far-at .0, inr (far-at .1), inr (far-at .2))
-      go (inr (inr (inr (inr e)))) = absurd e
-
-  pub →square : (q : Place) → Cornered a s p q → In q (square a s p)
-  unfolding u v w up
-  →square q (h, f, g) = go f g
-    where
-      go : (along (next a) q ≡ v) ⊎ (along (next a) q ≡ v + s) → (along (next (next a)) q ≡ w) ⊎ (along (next (next a)) q ≡ w + s) → In q (square a s p)
-      go (inl f) (inl g) = inl (same-coordinates a q p (h, f, g) (refl, refl, refl))
-      go (inr f) (inl g) = inr (inl (same-coordinates a q (move (next a) s p) (h, f, g) right-at))
-      go (inl f) (inr g) = inr (inr (inl (same-coordinates a q up (h, f, g) up-at)))
-      go (inr f) (inr g) = inr (inr (inr (inl (same-coordinates a q (move (next a) s up) (h, f, g) far-at))))
+  →square q h (inl f) (inl g) = inl (same-coordinates a q p (h, f, g) (refl, refl, refl))
+  →square q h (inr f) (inl g) = inr (inl (same-coordinates a q (move (next a) s p) (h, f, g) right-at))
+  →square q h (inl f) (inr g) = inr (inr (inl (same-coordinates a q up (h, f, g) up-at)))
+  →square q h (inr f) (inr g) = inr (inr (inr (inl (same-coordinates a q (move (next a) s up) (h, f, g) far-at))))

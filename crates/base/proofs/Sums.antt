@@ -2,7 +2,7 @@
 use Prim.Native.Nat.{ℕ, zero, suc, _+_, _*_, _≤_, _<_}
 use mathlib.Core.Path.{_≡_, refl, sym, ap, _∙_, subst}
 use mathlib.Core.Logic.{_⊎_, inl, inr}
-use mathlib.Core.Bool.{Bool, true, false, not, _&&_, cond}
+use mathlib.Core.Bool.{Bool, true, false, cond}
 use mathlib.Core.List.{List, [], _∷_, _++_, map}
 use native.Mathlib.Omega.{arith}
 use lib.Dec.{T, eqb, eqb→eq, eqb-refl}
@@ -91,9 +91,6 @@ module _ {A : Type 0} (same : A → A → Bool) where
   times x ys = sum (λ y. bit (same x y)) ys
 
 module _ {A : Type 0} (same : A → A → Bool) (reflexive : (x : A) → T (same x x)) where
-  pub in-times : (x : A) (ys : List A) → In x ys → 1 ≤ times same x ys
-  in-times x ys i = omega (arith, in-sum (λ y. bit (same x y)) ys x i, bit-true (same x x) (reflexive x))
-
   -- the position of an element that stands once
   pub position-once : (d : A) (xs : List A) (n i : ℕ) → n < length xs → times same (getD xs n d) xs ≤ 1 → position (same (getD xs n d)) i xs ≡ i + n
   position-once d xs n i h one = go xs n i h refl one

@@ -4,14 +4,14 @@
 --     meets-all     they meet every point
 -- Assumes nothing.
 use mathlib.Core.Path.{_≡_, refl, sym, ap, _∙_}
-use mathlib.Core.Bool.{Bool, true, false, not, _&&_, _||_}
+use mathlib.Core.Bool.{Bool, true, false, not, _||_}
 use mathlib.Core.List.{List}
 use Prim.Native.Nat.{ℕ, _+_, _≤_, _<_}
 use native.Mathlib.Omega.{arith}
 use native.Mathlib.Decide.{ℕ-discrete}
 use lib.Dec.{T, eqb}
 use lib.ListN.{length}
-use Rattle.base.specs.Lists.{bit, sum, any, collect}
+use Rattle.base.specs.Lists.{bit, sum, any}
 use Rattle.base.proofs.Lists.{In}
 use Rattle.base.proofs.Sums.{sum-same, sum-add, sum-collect, in-sum}
 use Rattle.base.proofs.Counts.{often, any-has}

@@ -8,17 +8,17 @@ use mathlib.Core.Path.{_≡_, refl, sym, ap, _∙_, subst, fun-ext}
 use mathlib.Core.Logic.{_⊎_, inl, inr}
 use mathlib.Core.Bool.{Bool, true, false, _&&_, _||_, cond}
 use mathlib.Core.List.{List, [], _∷_}
-use Prim.Native.Nat.{ℕ, zero, suc, _+_, _-_, _≤_, _<_}
+use Prim.Native.Nat.{ℕ, _+_, _-_, _≤_, _<_}
 use native.Mathlib.Nat.{eq-zero-or-pos}
 use native.Mathlib.Omega.{arith}
 use native.Mathlib.Decide.{ℕ-discrete}
-use lib.Dec.{eqb, eqb→eq, T}
+use lib.Dec.{eqb, T}
 use borrow.Author.Tests.{eqb-true, eqb-false, eq-eqb}
-use Rattle.base.specs.Lists.{bit, sum, any, keep, collect, first, count}
+use Rattle.base.specs.Lists.{bit, sum, any, collect, first, count}
 use Rattle.base.proofs.Tests.{or→, bit-true}
 use Rattle.base.proofs.Lists.{In, any→in, in-keep, keep-in, count-in}
 use Rattle.base.proofs.Sums.{sum-le, sum-add, sum-one, sum-keep-le, in-sum, count-once}
-use Rattle.base.proofs.Counts.{equal, often, equal-eq, equal-ne, equal-le, in-often, often-in, take-out, length-count, any-has}
+use Rattle.base.proofs.Counts.{equal, often, equal-eq, equal-ne, in-often, often-in, take-out, length-count, any-has}
 use Rattle.rules.specs.Steps.{Step, Triangle, met, onward, loops}
 use Rattle.rules.specs.Closing.{run, step, runs}
 use Rattle.geometry.proofs.Interface.{tally, leave, enter, Paired}

@@ -1,6 +1,6 @@
 -- Where every place on the box's outside is dry, no point lies in an outer face, and the surface closes without exception.
 -- Assumes nothing.
-use Prim.Native.Nat.{ℕ, _^_, _<_}
+use Prim.Native.Nat.{ℕ, _<_}
 use mathlib.Core.Path.{_≡_, refl, ap₂, subst}
 use mathlib.Core.Logic.{_⊎_, inl, inr}
 use mathlib.Core.Bool.{Bool, false, not, _&&_, _||_, Bool·beq}

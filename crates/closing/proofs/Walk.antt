@@ -16,8 +16,8 @@ use lib.ListN.{length}
 use borrow.Author.Tests.{eqb-true, eqb-false}
 use Rattle.base.specs.Lists.{sum}
 use Rattle.base.proofs.Sums.{sum-one}
-use Rattle.base.proofs.Counts.{equal, often, equal-eq, equal-ne, equal-le, sum-sub}
-use Rattle.rules.specs.Steps.{until, loop}
+use Rattle.base.proofs.Counts.{often, equal-eq, equal-ne, equal-le, sum-sub}
+use Rattle.rules.specs.Steps.{until}
 use Rattle.closing.specs.Cutting.{path}
 
 module _ (onward : ℕ → ℕ) where

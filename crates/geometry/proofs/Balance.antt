@@ -1,10 +1,10 @@
 -- Over all leaves, steps and their turned ones differ only by what the box shows on its own six sides.
-use Prim.Native.Nat.{ℕ, zero, suc, _+_}
+use Prim.Native.Nat.{ℕ, _+_}
 use native.Mathlib.Omega.{arith}
-use mathlib.Core.Path.{_≡_, refl, sym, _∙_, ap}
+use mathlib.Core.Path.{_≡_, _∙_}
 use Rattle.base.specs.Lists.{sum}
-use Rattle.base.specs.Grid.{Place, origin, Axis}
-use Rattle.rules.specs.Survey.{Cell, Survey}
+use Rattle.base.specs.Grid.{origin}
+use Rattle.rules.specs.Survey.{Survey}
 use Rattle.rules.specs.Steps.{Step, leafSteps}
 use Rattle.base.proofs.Sums.{sum-same}
 use Rattle.octree.proofs.Lawful.{isSplit, Lawful}

@@ -5,7 +5,7 @@ use native.Mathlib.Omega.{arith}
 use mathlib.Core.Path.{_≡_, refl}
 use mathlib.Core.Bool.{Bool, true, false}
 use Rattle.base.specs.Grid.{Place, Axis, X, Y, Z, next}
-use Rattle.geometry.proofs.Grid.{At, place, far, four, around, total, total-divided, total-whole, seen}
+use Rattle.geometry.proofs.Grid.{At, far, four, around, total, total-divided, total-whole, seen}
 use Rattle.geometry.proofs.Square.{rim}
 
 -- an edge of level suc k carries what its two halves carry

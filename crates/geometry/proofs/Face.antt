@@ -1,9 +1,9 @@
 -- The steps of one face by its wet marks: which edges they leave and enter, and how the face looks from its other side.
-use Prim.Native.Nat.{ℕ, zero, suc, _+_, _*_, _-_}
+use Prim.Native.Nat.{ℕ, _+_, _*_, _-_}
 use native.Mathlib.Omega.{arith}
-use mathlib.Core.Path.{_≡_, refl, sym, _∙_, ap}
+use mathlib.Core.Path.{_≡_, _∙_}
 use mathlib.Core.Bool.{Bool, true, false, not, _&&_}
-use mathlib.Core.List.{List, [], _∷_, _++_}
+use mathlib.Core.List.{_++_}
 use Rattle.base.specs.Lists.{sum, bit}
 use Rattle.rules.specs.Steps.{Step, stepIn, steps}
 use Rattle.base.proofs.Sums.{sum-append}

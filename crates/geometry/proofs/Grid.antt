@@ -1,8 +1,8 @@
 -- Squares and cells by level and coordinates, and sums over the small faces of a square and the sides of a cell.
 -- A square of axis a has the coordinates n u v: n on a (its plane), u on the next axis, v on the one after; its side is 2 ^ level.
-use Prim.Native.Nat.{ℕ, zero, suc, _+_, _^_, _≤_, _<_}
+use Prim.Native.Nat.{ℕ, zero, suc, _+_, _^_}
 use native.Mathlib.Omega.{arith}
-use mathlib.Core.Path.{_≡_, refl, sym, _∙_, ap}
+use mathlib.Core.Path.{_≡_, refl}
 use mathlib.Core.Logic.{_⊎_, inl, inr}
 use mathlib.Core.Bool.{Bool, true, false}
 use Rattle.base.specs.Grid.{Place, Axis, X, Y, Z, next, along, move}

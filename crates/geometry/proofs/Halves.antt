@@ -1,13 +1,13 @@
 -- Halves of edges, by place: which half of the edge above an edge is, and where that edge begins.
-use Prim.Native.Nat.{ℕ, zero, suc, _+_, _-_, _*_, _/_, _%_, _^_, _≤_, _<_}
+use Prim.Native.Nat.{ℕ, zero, suc, _+_, _-_, _*_, _/_, _%_, _^_, _≤_}
 use native.Mathlib.Nat.{pow-suc}
 use native.Mathlib.Omega.{arith}
 use lib.Pow.{split, shl-shr}
-use mathlib.Core.Path.{_≡_, refl, sym, _∙_, ap, subst}
-use mathlib.Core.Bool.{Bool, true, false, not, cond, false≢true}
+use mathlib.Core.Path.{_≡_, refl, _∙_, ap}
+use mathlib.Core.Bool.{Bool, true, false, not, cond}
 use lib.Dec.{eqb, eqb→eq}
 use Rattle.base.specs.Lists.{bit}
-use Rattle.base.specs.Grid.{Place, Axis, X, Y, Z, next, along, move, back}
+use Rattle.base.specs.Grid.{Place, Axis, X, Y, Z, along, move, back}
 use Rattle.rules.specs.Steps.{isUpper, above, other}
 use Rattle.base.proofs.Tests.{→true}
 use Rattle.base.proofs.Places.{along-put}
@@ -54,7 +54,7 @@ module _ (a : Axis) where
   along-half k false p = refl
   along-half k true p = along-put a (along a p + 2 ^ k) p
 
-  pub upper-half : (k : ℕ) (b : Bool) (p : Place) → Multiple (suc k) (along a p) → isUpper a (halfOf k b p) k ≡ b
+  upper-half : (k : ℕ) (b : Bool) (p : Place) → Multiple (suc k) (along a p) → isUpper a (halfOf k b p) k ≡ b
   upper-half k b p h = ap (isHigh k) (along-half k b p) ∙ high-half k (along a p) h b
 
 back-move : (a : Axis) (s : ℕ) (p : Place) → back a s (move a s p) ≡ p

@@ -1,7 +1,7 @@
 -- The laws of face steps: each leaf's steps pair up, and over all leaves they balance.
-use Prim.Native.Nat.{ℕ, zero, suc, _+_, _≤_, _<_}
+use Prim.Native.Nat.{ℕ, _+_, _≤_, _<_}
 use native.Mathlib.Omega.{arith}
-use mathlib.Core.Path.{_≡_, refl, sym, _∙_, ap, subst}
+use mathlib.Core.Path.{_≡_, refl, sym, _∙_, ap}
 use mathlib.Core.Logic.{_⊎_, inl, inr, _≢_}
 use mathlib.Core.Bool.{Bool, true, false, not, _&&_}
 use mathlib.Core.List.{List}
@@ -21,7 +21,6 @@ use Rattle.geometry.proofs.Interface.{leavesOf, tally, leave, enter, Pa
 use Rattle.geometry.proofs.Square.{drawn, fore, back, left-is, entered-is}
 use Rattle.geometry.proofs.Closed.{closed}
 use Rattle.geometry.proofs.Sides.{parted, parted-unit}
-use Rattle.geometry.proofs.Once.{Off}
 use Rattle.geometry.proofs.Small.{Bare, shown, leaf-shows, leaf-cell}
 use Rattle.geometry.proofs.Balance.{leaves-balance}
 use Rattle.geometry.proofs.Trees.{sibling-line}
@@ -54,10 +53,10 @@ step-turn p q a b = ap bit (and-turn (eqb p b) (eqb q a))
 -- edges on one line lie in the same planes
 off-line : (e f : CellEdge) (b : Axis) (m : ℕ) → f .axis ≡ e .axis → along (next (e .axis)) (f .low) ≡ along (next (e .axis)) (e .low)
     → along (next (next (e .axis))) (f .low) ≡ along (next (next (e .axis))) (e .low) → OffPlane f b m → OffPlane e b m
-off-line e f b m x y z o =
-    subst (λ l. Off (e .axis) (along (next (e .axis)) (e .low)) l b m) z
-    (subst (λ j. Off (e .axis) j (along (next (next (e .axis))) (f .low)) b m) y
-    (subst (λ a. Off a (along (next a) (f .low)) (along (next (next a)) (f .low)) b m) x o))
+off-line e f b m x y z (o, o′) = (
+  λ q p. o (q ∙ ap next (sym x)) (ap (λ a. along (next a) (f .low)) x ∙ y ∙ p),
+  λ q p. o′ (q ∙ ap (λ a. next (next a)) (sym x)) (ap (λ a. along (next (next a)) (f .low)) x ∙ z ∙ p),
+)
 
 module _ (s : Survey) (law : Lawful s) where
   -- on a cell, as much enters a point and its twin as leaves them

@@ -4,6 +4,7 @@ pub mod Telescope
 pub mod Face
 pub mod Square
 pub mod Closed
+pub mod Area
 pub mod Once
 pub mod Sides
 pub mod Small
@@ -14,5 +15,6 @@ pub mod Points
 pub mod Located
 pub mod Outside
 pub mod Laws
+pub mod Views
 pub mod Passed
 pub mod Theorem

@@ -1,28 +1,27 @@
 -- What the box shows on its own six sides: steps between edges in one outer face, and none where every place there is dry.
-use Prim.Native.Nat.{ℕ, zero, suc, _+_, _^_, _≤_, _<_}
+use Prim.Native.Nat.{ℕ, _+_, _^_, _≤_}
 use native.Mathlib.Omega.{arith}
 use mathlib.Core.Path.{_≡_, refl, sym, _∙_, ap, subst}
-use mathlib.Core.Logic.{_⊎_, inl, inr, _≢_}
-use mathlib.Core.Bool.{Bool, true, false, not, _&&_, _||_}
-use mathlib.Core.List.{List}
+use mathlib.Core.Logic.{_⊎_, inl, inr}
+use mathlib.Core.Bool.{Bool, false, not, _&&_, _||_}
 use lib.Dec.{T, eqb, eqb→eq, T-not}
-use Rattle.base.specs.Lists.{any, sum, bit}
-use Rattle.base.specs.Grid.{Place, origin, Axis, X, Y, Z, axes, next, along, move}
+use Rattle.base.specs.Grid.{Place, origin, Axis, X, Y, Z, axes, next, along}
 use Rattle.rules.specs.Survey.{Survey}
 use Rattle.rules.specs.Edges.{CellEdge, upperEnd}
 use Rattle.rules.specs.Steps.{Step, edgeOf}
 use Rattle.rules.specs.Closing.{liesIn, inOneFace, step}
-use Rattle.base.proofs.Tests.{and→, →and, or-left, or-right, →true, →false, either, bit-le, eq→eqb}
+use Rattle.base.proofs.Tests.{and→, →and, or-left, or-right, →false, either, bit-le, eq→eqb}
 use Rattle.base.proofs.Lists.{in→any}
 use Rattle.base.proofs.Sums.{sum-le}
 use Rattle.base.proofs.Places.{each-axis}
 use Rattle.octree.proofs.Lawful.{isCell, Lawful}
-use Rattle.geometry.proofs.Grid.{At, place, along-across, along-move-first, along-move-second, total, seen}
+use Rattle.geometry.proofs.Grid.{place, along-across, along-move-first, along-move-second, total, seen}
 use Rattle.geometry.proofs.Square.{turned, drawn, squareSteps, squarePoint}
-use Rattle.geometry.proofs.Once.{Which, same, first, second, which, total-le, total-none}
+use Rattle.geometry.proofs.Area.{total-le, total-none}
+use Rattle.geometry.proofs.Once.{Which, same, first, second, which}
 use Rattle.geometry.proofs.Sides.{Flank, parted, flank-kept}
 use Rattle.geometry.proofs.Small.{shown}
-use Rattle.geometry.proofs.Located.{not-first, not-second, next-three, hits, left, entered, OffPlane, left-off, entered-off}
+use Rattle.geometry.proofs.Located.{not-first, not-second, hits, left, entered, OffPlane, left-off, entered-off}
 
 -- ---- planes
 
@@ -85,11 +84,11 @@ module _ (s : Survey) (f : Step → ℕ) where
   drawn-le : (f′ : Step → ℕ) → ((t : Step) → f t ≤ f′ t) → (b : Axis) (k n x y : ℕ) → drawn s f b k n x y ≤ drawn s f′ b k n x y
   unfolding drawn
   drawn-le f′ h b k n x y =
-      sum-le (λ t. f (squarePoint s b k n x y (t .0), squarePoint s b k n x y (t .1))) (λ t. f′ (squarePoint s b k n x y (t .0), squarePoint s b k n x y (t .1)))
-      (squareSteps s b k n x y) (λ t _. h (squarePoint s b k n x y (t .0), squarePoint s b k n x y (t .1)))
+      let P : Step → Step = λ t. (squarePoint s b k n x y (t .0), squarePoint s b k n x y (t .1)) in
+      sum-le (λ t. f (P t)) (λ t. f′ (P t)) (squareSteps s b k n x y) (λ t _. h (P t))
 
   module _ (law : Lawful s) (b : Axis) (k n x y : ℕ) (q : Flank (s .cells) b k n x y) where
-    pub none-left : (v : ℕ) → ((t : Step) → f t ≤ hits v (t .0)) → OffPlane (edgeOf s v) b n → total (parted (s .cells) b) (drawn s f b) k n x y ≡ 0
+    none-left : (v : ℕ) → ((t : Step) → f t ≤ hits v (t .0)) → OffPlane (edgeOf s v) b n → total (parted (s .cells) b) (drawn s f b) k n x y ≡ 0
     none-left v h off =
         omega (
           arith,
@@ -98,7 +97,7 @@ module _ (s : Survey) (f : Step → ℕ) where
               (λ k n x y _. drawn-le (λ t. hits v (t .0)) h b k n x y) k n x y q,
         )
 
-    pub none-entered : (v : ℕ) → ((t : Step) → f t ≤ hits v (t .1)) → OffPlane (edgeOf s v) b n → total (parted (s .cells) b) (drawn s f b) k n x y ≡ 0
+    none-entered : (v : ℕ) → ((t : Step) → f t ≤ hits v (t .1)) → OffPlane (edgeOf s v) b n → total (parted (s .cells) b) (drawn s f b) k n x y ≡ 0
     none-entered v h off =
         omega (
           arith,

@@ -1,15 +1,14 @@
 -- Points and their numbers: the edges whose point has a number, twins by number, and what the edges carry of a point and its twin together,
 -- which adds up over the halves of an edge.
-use Prim.Native.Nat.{ℕ, zero, suc, _+_, _*_, _^_, _≤_, _<_}
+use Prim.Native.Nat.{ℕ, suc, _+_, _*_, _^_, _<_}
 use native.Mathlib.Omega.{arith}
 use mathlib.Core.Path.{_≡_, refl, sym, _∙_, ap, subst}
-use mathlib.Core.Logic.{_⊎_, inl, inr}
-use mathlib.Core.Bool.{Bool, true, false, not, _&&_, true≢false, false≢true}
+use mathlib.Core.Bool.{Bool, true, false}
 use mathlib.Core.Option.{Option, none, some}
-use lib.Dec.{T, eqb, eqb→eq}
+use lib.Dec.{eqb, eqb→eq}
 use lib.ListN.{length}
 use Rattle.base.specs.Lists.{bit}
-use Rattle.base.specs.Grid.{Place, origin, Axis, X, next, along, move}
+use Rattle.base.specs.Grid.{Place, origin, Axis, X, next, move}
 use Rattle.rules.specs.Survey.{Survey}
 use Rattle.rules.specs.Edges.{CellEdge, edge, pointEdges, numberOf, carrier, pointOf}
 use Rattle.rules.specs.Steps.{edgeOf, numberElse, twinOf}
@@ -20,13 +19,14 @@ use Rattle.octree.proofs.Lawful.{Lawful}
 use Rattle.octree.proofs.Edges.{crossed→, undivided→}
 use Rattle.octree.proofs.Points.{Crossed, point-crossed, crossed-carries, number-at}
 use Rattle.octree.proofs.Halves.{carrier-crossed}
-use Rattle.geometry.proofs.Grid.{At, place, half, far, move-across}
+use Rattle.geometry.proofs.Grid.{place, far, move-across}
 use Rattle.geometry.proofs.Face.{rises}
 use Rattle.geometry.proofs.Square.{pointAt, fore, back}
 use Rattle.geometry.proofs.Closed.{Adds, Rim}
 use Rattle.geometry.proofs.Sides.{EdgeAt, parted, parted-flank, quarter, side-edges}
 use Rattle.geometry.proofs.Halves.{halfOf}
-use Rattle.geometry.proofs.Trees.{differ, edgeIs, dividedIs, oddIs, odd-whole, odd-upper, divided-half, carrier-undivided, carrier-lower, carrier-upper, Below, Siblings, twinEdge, carrier-below, sibling-twin, sibling-back, sibling-edge, twin-sibling}
+use Rattle.geometry.proofs.Trees.{differ, edgeIs, dividedIs, oddIs, odd-whole, divided-half, carrier-lower, carrier-upper}
+use Rattle.geometry.proofs.Trees.{Below, Siblings, twinEdge, carrier-below, sibling-twin, sibling-back, sibling-edge, twin-sibling}
 
 module _ (s : Survey) where
   pub crossed-parts : (e : CellEdge) → Crossed s e
@@ -41,12 +41,16 @@ module _ (s : Survey) where
   unfolding edgeOf
   carried e p (h, q) = get-any (pointEdges s) p (edge X origin 0) e h ∙ q
 
+  -- an edge is odd where its ends differ
+  pub odd-at : (b : Axis) (k i j l : ℕ) → oddIs s b k (place b i j l) ≡ differ (s .isWet (place b i j l)) (s .isWet (place b (i + 2 ^ k) j l))
+  odd-at b k i j l = odd-whole s b k (place b i j l) ∙ ap (λ q. differ (s .isWet (place b i j l)) (s .isWet q)) (move-across b (2 ^ k) i j l)
+
   -- a point and its twin, counted together
   abbrev pub pairHit : ℕ → ℕ → ℕ
   pairHit v x = bit (eqb v x) + bit (eqb (twinOf s v) x)
 
 module _ (s : Survey) (law : Lawful s) where
-  pub number-edge : (e : CellEdge) → Crossed s e → edgeOf s (numberOf s e) ≡ e
+  number-edge : (e : CellEdge) → Crossed s e → edgeOf s (numberOf s e) ≡ e
   number-edge e c = carried s e (numberOf s e) (crossed-carries s law e c)
 
   -- point v has the number v, and its edge is crossed
@@ -64,7 +68,8 @@ module _ (s : Survey) (law : Lawful s) where
 
   pub point-below : (b : Axis) (k i j l : ℕ) → EdgeAt (s .cells) b k i j l → oddIs s b k (place b i j l) ≡ true → pointAt s b k i j l < length (pointEdges s)
   point-below b k i j l e o =
-      subst (λ n. n < length (pointEdges s)) (sym (point-is b k i j l)) (crossed-carries s law (carrier s b (place b i j l) k) (carrier-crosses b (place b i j l) k e o) .0)
+      let p = place b i j l in
+      subst (λ n. n < length (pointEdges s)) (sym (point-is b k i j l)) (crossed-carries s law (carrier s b p k) (carrier-crosses b p k e o) .0)
 
   -- an odd edge whose point has the number v is that of point v, or an edge above it
   pub point-on : (v : ℕ) (b : Axis) (k i j l : ℕ) → EdgeAt (s .cells) b k i j l → oddIs s b k (place b i j l) ≡ true → v ≡ pointAt s b k i j l
@@ -80,7 +85,7 @@ module _ (s : Survey) (law : Lawful s) where
   unfolding twinOf
   twin-number e c = ap (λ x. numberElse s (numberOf s e) (twinEdge s x)) (number-edge e c)
 
-  pub siblings : (e t : CellEdge) → Crossed s e → twinEdge s e ≡ some t → Siblings s (e .axis) e t
+  siblings : (e t : CellEdge) → Crossed s e → twinEdge s e ≡ some t → Siblings s (e .axis) e t
   siblings e t c h =
       let (i, d, o) = crossed-parts s e c in
       twin-sibling s law (e .axis) (e .low) (e .level) t i d o h
@@ -88,7 +93,8 @@ module _ (s : Survey) (law : Lawful s) where
   twin-crossed : (e t : CellEdge) → Crossed s e → twinEdge s e ≡ some t → Crossed s t
   twin-crossed e t c h =
       let r = sibling-back s law (e .axis) e t (siblings e t c h) in
-      subst (Crossed s) (sym (r .here)) (carrier-crosses (e .axis) (halfOf (e .axis) (r .level) (r .upper) (r .whole)) (r .level) (sibling-edge s law (e .axis) t e r) (r .is-odd))
+      let q = halfOf (e .axis) (r .level) (r .upper) (r .whole) in
+      subst (Crossed s) (sym (r .here)) (carrier-crosses (e .axis) q (r .level) (sibling-edge s law (e .axis) t e r) (r .is-odd))
 
   twin-back : (e t : CellEdge) → Crossed s e → twinEdge s e ≡ some t → twinEdge s t ≡ some e
   twin-back e t c h = sibling-twin s law (e .axis) t e (sibling-back s law (e .axis) e t (siblings e t c h))
@@ -173,50 +179,38 @@ module _ (s : Survey) (law : Lawful s) where
   unfolding fore back
   edge-adds h blind b k i j l E e =
       rw (← far k i)
-      (halves-add w0 w1 w2 (h (pointAt s b (suc k) i j l)) (h (pointAt s b k i j l)) (h (pointAt s b k (i + 2 ^ k) j l))
-      (λ o _. ap h (point-is b (suc k) i j l ∙ ap (numberOf s) (carrier-lower s b k p d (odd-low ∙ o)) ∙ sym (point-is b k i j l)))
-      (λ o. ap h (point-is b (suc k) i j l ∙ ap (numberOf s) (carrier-upper s b k p d (odd-low ∙ o)) ∙ upper-is))
-      (λ o n. ap h (point-is b k i j l)
-      ∙ blind (carrier s b p k) (carrier s b (move b (2 ^ k) p) k) (carrier-crosses b p k e (odd-low ∙ o)) (sibling-twin s law b _ _ (twins (odd-low ∙ o) (odd-all ∙ n)))
-      ∙ ap h upper-is))
+      (halves-add (s .isWet (place b i j l)) (s .isWet (place b (i + 2 ^ k) j l)) (s .isWet (place b (i + 2 ^ suc k) j l))
+      (h (pointAt s b (suc k) i j l)) (h (pointAt s b k i j l)) (h (pointAt s b k (i + 2 ^ k) j l))
+      (λ o _. ap h (point-is b (suc k) i j l ∙ ap (numberOf s) (carrier-lower s b k (place b i j l) d (low o)) ∙ sym (point-is b k i j l)))
+      (λ o. ap h (point-is b (suc k) i j l ∙ ap (numberOf s) (carrier-upper s b k (place b i j l) d (low o)) ∙ upper-is))
+      (λ o n. ap h (point-is b k i j l) ∙ twins (low o) (odd-at s b (suc k) i j l ∙ n) ∙ ap h upper-is))
     where
-      p : Place
-      p = place b i j l
-
-      w0 : Bool
-      w0 = s .isWet (place b i j l)
-
-      w1 : Bool
-      w1 = s .isWet (place b (i + 2 ^ k) j l)
-
-      w2 : Bool
-      w2 = s .isWet (place b (i + 2 ^ suc k) j l)
-
       d : dividedIs s b (suc k) (place b i j l) ≡ true
       d = divided-half s b k false (place b i j l) e
 
-      odd-low : oddIs s b k (place b i j l) ≡ differ (s .isWet (place b i j l)) (s .isWet (place b (i + 2 ^ k) j l))
-      odd-low = odd-whole s b k (place b i j l) ∙ ap (λ q. differ (s .isWet (place b i j l)) (s .isWet q)) (move-across b (2 ^ k) i j l)
-
-      odd-all : oddIs s b (suc k) (place b i j l) ≡ differ (s .isWet (place b i j l)) (s .isWet (place b (i + 2 ^ suc k) j l))
-      odd-all = odd-whole s b (suc k) (place b i j l) ∙ ap (λ q. differ (s .isWet (place b i j l)) (s .isWet q)) (move-across b (2 ^ suc k) i j l)
+      low : {x : Bool} → differ (s .isWet (place b i j l)) (s .isWet (place b (i + 2 ^ k) j l)) ≡ x → oddIs s b k (place b i j l) ≡ x
+      low o = odd-at s b k i j l ∙ o
 
       upper-is : numberOf s (carrier s b (move b (2 ^ k) (place b i j l)) k) ≡ pointAt s b k (i + 2 ^ k) j l
       upper-is = ap (λ q. numberOf s (carrier s b q k)) (move-across b (2 ^ k) i j l) ∙ sym (point-is b k (i + 2 ^ k) j l)
 
       twins : oddIs s b k (place b i j l) ≡ true → oddIs s b (suc k) (place b i j l) ≡ false
-          → Siblings s b (carrier s b (place b i j l) k) (carrier s b (move b (2 ^ k) (place b i j l)) k)
-      twins o n = record {
-        level = k;
-        whole = place b i j l;
-        upper = false;
-        is-edge = E;
-        is-divided = d;
-        is-even = n;
-        is-odd = o;
-        here = refl;
-        there = refl;
-      }
+          → h (numberOf s (carrier s b (place b i j l) k)) ≡ h (numberOf s (carrier s b (move b (2 ^ k) (place b i j l)) k))
+      twins o n =
+          let lower = carrier s b (place b i j l) k in
+          let upper = carrier s b (move b (2 ^ k) (place b i j l)) k in
+          let pair : Siblings s b lower upper = record {
+            level = k;
+            whole = place b i j l;
+            upper = false;
+            is-edge = E;
+            is-divided = d;
+            is-even = n;
+            is-odd = o;
+            here = refl;
+            there = refl;
+          } in
+          blind lower upper (carrier-crosses b (place b i j l) k e o) (sibling-twin s law b lower upper pair)
 
   -- the four edges of a divided square add up
   pub square-adds : (h : ℕ → ℕ) → Blind h → (a : Axis) (k n u v : ℕ) → parted (s .cells) a (suc k) n u v ≡ true → Rim (fore s h) (back s h) a k n u v

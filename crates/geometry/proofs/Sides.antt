@@ -1,6 +1,6 @@
 -- The sides of an octree's cells: which squares are divided, that the quarters of a divided one are sides again, and that their edges are edges
 -- of cells.
-use Prim.Native.Nat.{ℕ, zero, suc, _+_, _^_}
+use Prim.Native.Nat.{ℕ, suc, _+_, _^_}
 use native.Mathlib.Omega.{arith}
 use mathlib.Core.Path.{_≡_, refl, sym, _∙_, ap, subst, fun-ext}
 use mathlib.Core.Logic.{_⊎_, inl, inr}
@@ -20,7 +20,7 @@ use Rattle.octree.proofs.Cells.{split-cell}
 use Rattle.octree.proofs.Edges.{edge→, →edge}
 use Rattle.geometry.proofs.Grid.{At, place, half, turn-first, turn-second, along-across, along-first, along-second, place-of, Ends, half-ends}
 use Rattle.geometry.proofs.Closed.{Edges}
-use Rattle.geometry.proofs.Once.{Kept}
+use Rattle.geometry.proofs.Area.{Kept}
 
 eqb-plus : (m n s : ℕ) → eqb (m + s) (n + s) ≡ eqb m n
 eqb-plus m n s =
@@ -74,7 +74,7 @@ module _ (cells : List Cell) where
       (along a (c .low), e, subst T (ap (λ n. under a k n u v) e ∙ under-is a k (along a (c .low)) u v) t)
 
   -- beside a divided square there is a split cell
-  pub parted→ : (a : Axis) (k n u v : ℕ) → parted a k n u v ≡ true → (m : ℕ) × Ends k m n × T (isSplit cells k (place a m u v))
+  parted→ : (a : Axis) (k n u v : ℕ) → parted a k n u v ≡ true → (m : ℕ) × Ends k m n × T (isSplit cells k (place a m u v))
   unfolding parted
   parted→ a k n u v e = go (or→ (over a k n u v) (under a k n u v) (→true e))
     where

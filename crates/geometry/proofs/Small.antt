@@ -24,7 +24,7 @@ use Rattle.octree.proofs.Inside.{split-of, no-cell-inside}
 use Rattle.geometry.proofs.Interface.{leavesOf}
 use Rattle.geometry.proofs.Grid.{At, place, half, far, move-first, move-second, four, total, total-divided, total-whole, seen}
 use Rattle.geometry.proofs.Square.{turned, drawn, seen-below, seen-above}
-use Rattle.geometry.proofs.Once.{Kept}
+use Rattle.geometry.proofs.Area.{Kept}
 use Rattle.geometry.proofs.Sides.{over, under, parted, over-is, under-is, corner-halves}
 
 -- ---- the small faces of one side

@@ -2,14 +2,14 @@
 -- cell above.
 use Prim.Native.Nat.{ℕ, zero, suc, _+_, _*_, _-_, _^_}
 use native.Mathlib.Omega.{arith}
-use mathlib.Core.Path.{_≡_, refl, sym, _∙_, ap, fun-ext}
-use mathlib.Core.Bool.{Bool, true, false}
-use mathlib.Core.List.{List, [], _∷_, map}
+use mathlib.Core.Path.{_≡_, refl, sym, _∙_, ap}
+use mathlib.Core.Bool.{Bool}
+use mathlib.Core.List.{List, map}
 use Rattle.base.specs.Lists.{sum, bit}
-use Rattle.base.specs.Grid.{Place, Axis, X, Y, Z, next, move}
+use Rattle.base.specs.Grid.{Place, Axis, next, move}
 use Rattle.rules.specs.Survey.{Survey}
 use Rattle.rules.specs.Edges.{CellEdge, edge, pointOf}
-use Rattle.rules.specs.Steps.{Step, Side, upperSide, lowerSide, Face, face, faceCorner, faceEdge, steps, faceSteps}
+use Rattle.rules.specs.Steps.{Step, upperSide, lowerSide, face, faceCorner, faceEdge, steps, faceSteps}
 use Rattle.geometry.proofs.Grid.{At, place, move-first, move-second, turn-first, turn-second}
 use Rattle.base.proofs.Sums.{sum-map}
 use Rattle.geometry.proofs.Face.{rises, leaving, flip, entering}
@@ -120,53 +120,46 @@ module _ (s : Survey) where
   abbrev wet : Axis → ℕ → ℕ → ℕ → Bool
   wet a n u v = s .isWet (place a n u v)
 
-  drawn-left : (h : ℕ → ℕ) (a : Axis) (k n u v : ℕ) → drawn s (λ t. h (t .0)) a k n u v
-      ≡ bit (rises (wet a n u v) (wet a n (u + 2 ^ k) v)) * h (pointAt s (next a) k u v n)
-      + bit (rises (wet a n (u + 2 ^ k) v) (wet a n (u + 2 ^ k) (v + 2 ^ k))) * h (pointAt s (next (next a)) k v n (u + 2 ^ k))
-      + bit (rises (wet a n (u + 2 ^ k) (v + 2 ^ k)) (wet a n u (v + 2 ^ k))) * h (pointAt s (next a) k u (v + 2 ^ k) n)
-      + bit (rises (wet a n u (v + 2 ^ k)) (wet a n u v)) * h (pointAt s (next (next a)) k v n u)
-  unfolding drawn squareSteps pointAt
-  drawn-left h a k n u v =
-      leaving (s .saddle a (place a n u v) k) (wet a n u v) (wet a n (u + 2 ^ k) v) (wet a n (u + 2 ^ k) (v + 2 ^ k)) (wet a n u (v + 2 ^ k))
-      (λ i. h (squarePoint s a k n u v i))
+  -- what the four edges carry by their corners' marks, where r says of two marks in turn whether it counts
+  abbrev marked : (Bool → Bool → Bool) → (ℕ → ℕ) → Axis → At ℕ
+  marked r h a k n u v =
+      let w0 = wet a n u v in
+      let w1 = wet a n (u + 2 ^ k) v in
+      let w2 = wet a n (u + 2 ^ k) (v + 2 ^ k) in
+      let w3 = wet a n u (v + 2 ^ k) in
+      bit (r w0 w1) * h (pointAt s (next a) k u v n) + bit (r w1 w2) * h (pointAt s (next (next a)) k v n (u + 2 ^ k))
+      + bit (r w2 w3) * h (pointAt s (next a) k u (v + 2 ^ k) n) + bit (r w3 w0) * h (pointAt s (next (next a)) k v n u)
 
-  drawn-entered : (h : ℕ → ℕ) (a : Axis) (k n u v : ℕ) → drawn s (λ t. h (t .1)) a k n u v
-      ≡ bit (rises (wet a n (u + 2 ^ k) v) (wet a n u v)) * h (pointAt s (next a) k u v n)
-      + bit (rises (wet a n (u + 2 ^ k) (v + 2 ^ k)) (wet a n (u + 2 ^ k) v)) * h (pointAt s (next (next a)) k v n (u + 2 ^ k))
-      + bit (rises (wet a n u (v + 2 ^ k)) (wet a n (u + 2 ^ k) (v + 2 ^ k))) * h (pointAt s (next a) k u (v + 2 ^ k) n)
-      + bit (rises (wet a n u v) (wet a n u (v + 2 ^ k))) * h (pointAt s (next (next a)) k v n u)
+  drawn-marked : (h : ℕ → ℕ) (a : Axis) (k n u v : ℕ) → (drawn s (λ t. h (t .0)) a k n u v ≡ marked rises h a k n u v)
+      × (drawn s (λ t. h (t .1)) a k n u v ≡ marked (λ x y. rises y x) h a k n u v)
   unfolding drawn squareSteps pointAt
-  drawn-entered h a k n u v =
-      entering (s .saddle a (place a n u v) k) (wet a n u v) (wet a n (u + 2 ^ k) v) (wet a n (u + 2 ^ k) (v + 2 ^ k)) (wet a n u (v + 2 ^ k))
-      (λ i. h (squarePoint s a k n u v i))
+  drawn-marked h a k n u v =
+      let cut = s .saddle a (place a n u v) k in
+      let w0 = wet a n u v in
+      let w1 = wet a n (u + 2 ^ k) v in
+      let w2 = wet a n (u + 2 ^ k) (v + 2 ^ k) in
+      let w3 = wet a n u (v + 2 ^ k) in
+      (leaving cut w0 w1 w2 w3 (λ i. h (squarePoint s a k n u v i)), entering cut w0 w1 w2 w3 (λ i. h (squarePoint s a k n u v i)))
+
+  rim-marked : (h : ℕ → ℕ) (a : Axis) (k n u v : ℕ) → (rim (fore s h) (back s h) a k n u v ≡ marked rises h a k n u v)
+      × (rim (back s h) (fore s h) a k n u v ≡ marked (λ x y. rises y x) h a k n u v)
+  unfolding fore back
+  rim-marked h a k n u v =
+      rw (
+        ← turn-first a n u v,
+        ← turn-first a n (u + 2 ^ k) v,
+        ← turn-first a n u (v + 2 ^ k),
+        ← turn-first a n (u + 2 ^ k) (v + 2 ^ k),
+        ← turn-second a n u v,
+        ← turn-second a n (u + 2 ^ k) v,
+        ← turn-second a n u (v + 2 ^ k),
+        ← turn-second a n (u + 2 ^ k) (v + 2 ^ k),
+      )
+      (omega arith)
 
   -- what the steps of a square leave is what its four edges carry, and what they enter is what they carry the other way
   pub left-is : (h : ℕ → ℕ) (a : Axis) (k n u v : ℕ) → drawn s (λ t. h (t .0)) a k n u v ≡ rim (fore s h) (back s h) a k n u v
-  unfolding fore back
-  left-is h a k n u v =
-      rw (
-        ← turn-first a n u v,
-        ← turn-first a n (u + 2 ^ k) v,
-        ← turn-first a n u (v + 2 ^ k),
-        ← turn-first a n (u + 2 ^ k) (v + 2 ^ k),
-        ← turn-second a n u v,
-        ← turn-second a n (u + 2 ^ k) v,
-        ← turn-second a n u (v + 2 ^ k),
-        ← turn-second a n (u + 2 ^ k) (v + 2 ^ k),
-      )
-      (omega (arith, drawn-left h a k n u v))
+  left-is h a k n u v = drawn-marked h a k n u v .0 ∙ sym (rim-marked h a k n u v .0)
 
   pub entered-is : (h : ℕ → ℕ) (a : Axis) (k n u v : ℕ) → drawn s (λ t. h (t .1)) a k n u v ≡ rim (back s h) (fore s h) a k n u v
-  unfolding fore back
-  entered-is h a k n u v =
-      rw (
-        ← turn-first a n u v,
-        ← turn-first a n (u + 2 ^ k) v,
-        ← turn-first a n u (v + 2 ^ k),
-        ← turn-first a n (u + 2 ^ k) (v + 2 ^ k),
-        ← turn-second a n u v,
-        ← turn-second a n (u + 2 ^ k) v,
-        ← turn-second a n u (v + 2 ^ k),
-        ← turn-second a n (u + 2 ^ k) (v + 2 ^ k),
-      )
-      (omega (arith, drawn-entered h a k n u v))
+  entered-is h a k n u v = drawn-marked h a k n u v .1 ∙ sym (rim-marked h a k n u v .1)

@@ -1,7 +1,7 @@
 -- Each step drawn between two cells is seen once from either side, so over a whole tree only the outer sides remain.
 use Prim.Native.Nat.{ℕ, zero, suc, _+_, _^_}
 use native.Mathlib.Omega.{arith}
-use mathlib.Core.Path.{_≡_, refl, sym, _∙_, ap}
+use mathlib.Core.Path.{_≡_, refl, _∙_}
 use mathlib.Core.Bool.{Bool, true, false}
 use Rattle.base.specs.Grid.{Place, Axis, X, Y, Z}
 use Rattle.octree.proofs.Leaves.{treeSum, tree-leaf, tree-split}

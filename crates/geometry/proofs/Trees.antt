@@ -3,11 +3,11 @@ use Prim.Native.Nat.{ℕ, zero, suc, _+_, _^_, _≤_}
 use native.Mathlib.Omega.{arith}
 use mathlib.Core.Path.{_≡_, refl, sym, _∙_, ap, subst}
 use mathlib.Core.Logic.{_⊎_, inl, inr}
-use mathlib.Core.Bool.{Bool, true, false, not, _&&_, _||_, Bool·beq, true≢false, false≢true, Bool·not-not}
+use mathlib.Core.Bool.{Bool, true, false, not, _||_, Bool·beq, true≢false, false≢true, Bool·not-not}
 use mathlib.Core.Option.{Option, none, some, Option·none-ne-some, Option·some-injective}
 use Rattle.base.specs.Grid.{Place, Axis, next, along, move}
 use Rattle.rules.specs.Survey.{Survey}
-use Rattle.rules.specs.Edges.{CellEdge, edge, isEdge, divided, undivided, odd, crossed, carrier}
+use Rattle.rules.specs.Edges.{CellEdge, edge, isEdge, divided, undivided, odd, carrier}
 use Rattle.rules.specs.Steps.{isUpper, above, other, twin}
 use Rattle.base.proofs.Tests.{or-left, or-right, true→, →true}
 use Rattle.base.proofs.Places.{along-put}
@@ -67,7 +67,7 @@ module _ (s : Survey) (a : Axis) where
   unfolding odd
   odd-whole k p = refl
 
-  pub odd-upper : (k : ℕ) (p : Place) → oddIs k (move a (2 ^ k) p) ≡ differ (s .isWet (move a (2 ^ k) p)) (s .isWet (move a (2 ^ suc k) p))
+  odd-upper : (k : ℕ) (p : Place) → oddIs k (move a (2 ^ k) p) ≡ differ (s .isWet (move a (2 ^ k) p)) (s .isWet (move a (2 ^ suc k) p))
   odd-upper k p = odd-whole k (move a (2 ^ k) p) ∙ ap (λ q. differ (s .isWet (move a (2 ^ k) p)) (s .isWet q)) (move-move a k p)
 
   -- the odd half of an odd edge: its ends are as wet as those of the whole
@@ -152,11 +152,12 @@ module _ (s : Survey) (a : Axis) where
       (record { axis = refl; is-edge = e; undivided = d; low = refl; high = refl; from = omega arith; to = omega arith; first = refl; second = refl })
 
   -- a half lies on the whole
-  pub half-on : (k : ℕ) (b : Bool) (p : Place) → (along a p ≤ along a (halfOf a k b p)) × (along a (halfOf a k b p) + 2 ^ k ≤ along a p + 2 ^ suc k)
+  half-on : (k : ℕ) (b : Bool) (p : Place) → (along a p ≤ along a (halfOf a k b p)) × (along a (halfOf a k b p) + 2 ^ k ≤ along a p + 2 ^ suc k)
       × (along (next a) (halfOf a k b p) ≡ along (next a) p) × (along (next (next a)) (halfOf a k b p) ≡ along (next (next a)) p)
   half-on k false p = (omega arith, omega arith, refl, refl)
   half-on k true p =
-      (omega (arith, along-put a (along a p + 2 ^ k) p), omega (arith, along-put a (along a p + 2 ^ k) p), along-move-first a (2 ^ k) p, along-move-second a (2 ^ k) p)
+      let e = along-put a (along a p + 2 ^ k) p in
+      (omega arith, omega arith, along-move-first a (2 ^ k) p, along-move-second a (2 ^ k) p)
 
   -- ---- steps of the climb, k levels
 

@@ -11,9 +11,9 @@ use lib.Dec.{T}
 use Rattle.base.specs.Grid.{Place, origin, Axis, X, Y, Z, along}
 use Rattle.rules.specs.Survey.{Cell}
 use Rattle.rules.specs.Edges.{isEdge}
-use Rattle.base.proofs.Places.{every-axis, place-equal}
+use Rattle.base.proofs.Places.{place-equal}
 use Rattle.base.proofs.Octants.{Holds}
-use Rattle.octree.proofs.Lawful.{isCell, isSplit, CornerOf, Octree}
+use Rattle.octree.proofs.Lawful.{isCell, CornerOf, Octree}
 use Rattle.octree.proofs.Cells.{split-cell}
 use Rattle.octree.proofs.Edges.{edge→}
 

@@ -1,21 +1,21 @@
 -- Edges: an edge is an edge of some cell, said of a cell's level and place; edges are equal by their axis, lower end and level; the edges
 -- of all cells.
 use Prim.Native.Nat.{ℕ, _+_, _^_, _≤_}
-use mathlib.Core.Path.{_≡_, refl, sym, ap, _∙_, subst}
+use mathlib.Core.Path.{_≡_, sym, ap, subst}
 use mathlib.Core.Logic.{_⊎_, inl, inr}
-use mathlib.Core.Bool.{Bool, not, _&&_, _||_}
+use mathlib.Core.Bool.{not, _&&_}
 use mathlib.Core.List.{List}
 use lib.Dec.{T, eqb, eqb→eq, eqb-refl}
 use Rattle.base.specs.Lists.{any, collect}
-use Rattle.base.specs.Grid.{Place, Axis, axes, axisNumber, next, along, same}
+use Rattle.base.specs.Grid.{Place, Axis, axes, axisNumber, next, along, move, same}
 use Rattle.rules.specs.Survey.{Cell, cell, size, Survey}
 use Rattle.rules.specs.Edges.{CellEdge, edge, sameEdge, onSide, hasEdge, isEdge, divided, undivided, odd, crossed}
 use Rattle.rules.specs.Closing.{cellEdgesOn, allEdges}
 use Rattle.base.proofs.Tests.{and→, →and, or→, or-left, or-right, eq→eqb}
-use Rattle.base.proofs.Lists.{In, any→in, in→any, in-map, map-in, in-collect, collect-in, in-distinct, distinct-in}
+use Rattle.base.proofs.Lists.{In, any→in, in→any, map-in, collect-in, distinct-in}
 use Rattle.base.proofs.Sums.{times, distinct-once}
-use Rattle.base.proofs.Places.{every-axis, each-axis, same→, same-refl, axis-equal, square, square→, →square}
-use Rattle.octree.proofs.Lawful.{isCell, CornerOf}
+use Rattle.base.proofs.Places.{every-axis, each-axis, put-one, same→, same-refl, axis-equal, square, →square}
+use Rattle.octree.proofs.Lawful.{isCell, CornerOf, Lawful}
 use Rattle.octree.proofs.Cells.{cell→, →cell}
 
 -- ---- equal edges
@@ -91,6 +91,18 @@ unfolding isEdge
     let c = cell q l (r .0) in
     in→any (hasEdge a p l) cells c (r .1) (→has-edge a p c (e, f (next a), f (next (next a))))
 
+-- both ends of an edge are corners of its cell, and so are listed
+
+upper-corner : (a : Axis) (p : Place) (l : ℕ) (q : Place) → along a p ≡ along a q → CornerOf l q p → CornerOf l q (move a (2 ^ l) p)
+upper-corner a p l q e f = put-one (λ b n. (n ≡ along b q) ⊎ (n ≡ along b q + 2 ^ l)) a (along a p + 2 ^ l) p (inr (ap (λ n. n + 2 ^ l) e)) f
+
+module _ (s : Survey) (law : Lawful s) where
+  pub lower-end : (a : Axis) (p : Place) (l : ℕ) → T (isEdge (s .cells) a p l) → T (any (same p) (s .places))
+  lower-end a p l t = let (q, h, e, f) = edge→ (s .cells) a p l t in law .listed l q p h f
+
+  pub upper-end : (a : Axis) (p : Place) (l : ℕ) → T (isEdge (s .cells) a p l) → T (any (same (move a (2 ^ l) p)) (s .places))
+  upper-end a p l t = let (q, h, e, f) = edge→ (s .cells) a p l t in law .listed l q (move a (2 ^ l) p) h (upper-corner a p l q e f)
+
 -- ---- crossed edges
 
 pub undivided→ : (cells : List Cell) (a : Axis) (p : Place) (l : ℕ) → T (undivided cells a p l) → T (isEdge cells a p l) × T (not (divided cells a p l))
@@ -107,19 +119,6 @@ unfolding crossed
 
 -- ---- the edges of all cells
 
-pub in-all-edges : (cells : List Cell) (e : CellEdge) → In e (allEdges cells) → T (isEdge cells (e .axis) (e .low) (e .level))
-unfolding allEdges
-in-all-edges cells e i =
-    let r = in-collect (λ c. collect (cellEdgesOn c) axes) cells e (in-distinct sameEdge (collect (λ c. collect (cellEdgesOn c) axes) cells) e i) in
-    let c = r .0 in
-    let s = in-collect (cellEdgesOn c) axes e (r .2) in
-    let a = s .0 in
-    let t = in-map (λ p. edge a p (c .level)) (square a (size c) (c .low)) e (s .2) in
-    let p = t .0 in
-    let h = square→ a (size c) (c .low) p (t .1) in
-    subst (λ (f : CellEdge). T (isEdge cells (f .axis) (f .low) (f .level))) (sym (t .2))
-    (→edge cells a p (c .level) (c .low, →cell cells c (r .1), h .0, every-axis (λ b. Sided b (c .level) (c .low) p) a (inl (h .0)) (h .1) (h .2)))
-
 pub all-edges-in : (cells : List Cell) (e : CellEdge) → T (isEdge cells (e .axis) (e .low) (e .level)) → In e (allEdges cells)
 unfolding allEdges
 all-edges-in cells e t =
@@ -130,7 +129,7 @@ all-edges-in cells e t =
     distinct-in sameEdge same-edge→ (collect (λ c. collect (cellEdgesOn c) axes) cells) e
     (collect-in (λ c. collect (cellEdgesOn c) axes) cells e c (r .1)
     (collect-in (cellEdgesOn c) axes e a (each-axis a)
-    (map-in (λ p. edge a p (c .level)) (square a (size c) q) (e .low) (→square a (size c) q (e .low) (g, f (next a), f (next (next a)))))))
+    (map-in (λ p. edge a p (c .level)) (square a (size c) q) (e .low) (→square a (size c) q (e .low) g (f (next a)) (f (next (next a)))))))
 
 pub all-edges-once : (cells : List Cell) (e : CellEdge) → times sameEdge e (allEdges cells) ≤ 1
 unfolding allEdges

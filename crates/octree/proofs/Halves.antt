@@ -1,19 +1,19 @@
 -- Both halves of a divided edge are edges; an odd edge has exactly one odd half; the edge that carries the point of an odd edge is odd and
 -- undivided. For any axis.
-use Prim.Native.Nat.{ℕ, zero, suc, _+_, _^_, _≤_, _<_}
+use Prim.Native.Nat.{ℕ, zero, suc, _+_, _^_, _<_}
 use mathlib.Core.Path.{_≡_, refl, sym, ap, _∙_, subst}
 use mathlib.Core.Logic.{_⊎_, inl, inr}
-use mathlib.Core.Bool.{Bool, true, false, not, _&&_, _||_, Bool·beq, cond}
+use mathlib.Core.Bool.{Bool, true, false, not, Bool·beq, cond}
 use mathlib.Core.List.{List}
 use native.Mathlib.Nat.{pow-succ'}
 use native.Mathlib.Omega.{arith}
 use lib.Dec.{T}
 use Rattle.base.specs.Grid.{Place, Axis, along, put, move}
 use Rattle.rules.specs.Survey.{Cell, Survey}
-use Rattle.rules.specs.Edges.{CellEdge, edge, isEdge, divided, undivided, odd, crossed, carrier}
+use Rattle.rules.specs.Edges.{edge, isEdge, divided, undivided, odd, carrier}
 use Rattle.base.proofs.Tests.{→and, or→}
 use Rattle.base.proofs.Places.{along-put, put-both, put-one, put-put, put-along}
-use Rattle.octree.proofs.Lawful.{isCell, isSplit, CornerOf, Octree}
+use Rattle.octree.proofs.Lawful.{isSplit, CornerOf, Octree}
 use Rattle.octree.proofs.Cells.{split-cell}
 use Rattle.octree.proofs.Edges.{edge→, →edge, →crossed}
 use Rattle.octree.proofs.Aligned.{Multiple, no-middle, cell-aligned, edge-aligned, edge-level}

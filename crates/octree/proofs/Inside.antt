@@ -1,8 +1,8 @@
 -- A record's mark is what the tree says of its cell; and no cell lies inside a leaf.
 use Prim.Native.Nat.{ℕ, zero, suc, _+_, _-_, _^_, _≤_, _<_}
-use mathlib.Core.Path.{_≡_, refl, sym, ap, _∙_, subst}
+use mathlib.Core.Path.{_≡_, sym, ap, _∙_, subst}
 use mathlib.Core.Logic.{_⊎_, inl, inr}
-use mathlib.Core.Bool.{Bool, true, false, not}
+use mathlib.Core.Bool.{true, false}
 use mathlib.Core.List.{List}
 use native.Mathlib.Nat.{pow-succ'}
 use native.Mathlib.Omega.{arith}
@@ -15,7 +15,7 @@ use Rattle.base.proofs.Lists.{In}
 use Rattle.base.proofs.Sums.{two-in-sum}
 use Rattle.base.proofs.Octants.{Holds}
 use Rattle.octree.proofs.Lawful.{isAt, isCell, isSplit, copies, Octree}
-use Rattle.octree.proofs.Cells.{is-at, →cell, split→, →split, split-cell}
+use Rattle.octree.proofs.Cells.{is-at, split→, →split, split-cell}
 use Rattle.octree.proofs.Covers.{holds-self}
 use Rattle.octree.proofs.Aligned.{one-cube, cell-aligned}
 

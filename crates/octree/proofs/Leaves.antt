@@ -119,7 +119,8 @@ module _ (cells : List Cell) (tree : Octree cells) where
         parts : List Place
         parts = octants (2 ^ l) p
 
-        covered : c .split ≡ false → (l < c .level) ⊎ (c .level ≤ l) → sum (covers (c .level) (c .low) l) (octants (2 ^ l) p) ≡ covers (c .level) (c .low) (suc l) p
+        covered : c .split ≡ false → (l < c .level) ⊎ (c .level ≤ l) →
+            sum (covers (c .level) (c .low) l) parts ≡ covers (c .level) (c .low) (suc l) p
         covered e (inl h) =
             sum-same (covers (c .level) (c .low) l) (λ r. 0) parts (λ r j. covers-no (c .level) (c .low) l r h)
             ∙ sum-zero parts ∙ sym (split-covers l p s c i e h)
@@ -143,7 +144,8 @@ module _ (cells : List Cell) (tree : Octree cells) where
         go (inr e) ih = tree-leaf (isSplit cells) f (suc l) p e ∙ sym (leaf-sums (suc l) p h e)
         go (inl s) ih =
             tree-split (isSplit cells) f l p (true→ (isSplit cells (suc l) p) s)
-            ∙ sum-same (treeSum (isSplit cells) f l) (λ r. sum (share l r) cells) (octants (2 ^ l) p) (λ r i. ih r (tree .child l p r s (octant→ (2 ^ l) p r i)))
+            ∙ sum-same (treeSum (isSplit cells) f l) (λ r. sum (share l r) cells) (octants (2 ^ l) p)
+            (λ r i. ih r (tree .child l p r s (octant→ (2 ^ l) p r i)))
             ∙ sum-swap (share l) (octants (2 ^ l) p) cells
             ∙ sum-same (λ c. sum (λ r. share l r c) (octants (2 ^ l) p)) (share (suc l) p) cells (split-share l p s)
 

@@ -1,23 +1,23 @@
 -- Points of a lawful survey: each crossed edge carries one number below the point count, which is `numberOf`; each number is carried by one
 -- edge alone; and there are as many points as odd undivided edges.
-use Prim.Native.Nat.{ℕ, _+_, _≤_, _<_}
-use mathlib.Core.Path.{_≡_, refl, sym, ap, _∙_, subst}
+use Prim.Native.Nat.{ℕ, _≤_, _<_}
+use mathlib.Core.Path.{_≡_, sym, ap, _∙_, subst}
 use mathlib.Core.Bool.{Bool, not, _&&_}
 use mathlib.Core.List.{List, map}
 use native.Mathlib.Omega.{arith}
-use lib.Dec.{T, T-not, eqb, eqb→eq, eqb-refl}
+use lib.Dec.{T, T-not, eqb, eqb-refl}
 use lib.ListN.{length, getD}
-use Rattle.base.specs.Lists.{any, keep, collect, position, count, bit}
+use Rattle.base.specs.Lists.{keep, collect, position, count, bit}
 use Rattle.base.specs.Grid.{Place, origin, Axis, X, axes, axisNumber, same}
 use Rattle.rules.specs.Survey.{Survey}
-use Rattle.rules.specs.Edges.{CellEdge, edge, sameEdge, isEdge, undivided, odd, crossed, pointEdges, numberOf}
+use Rattle.rules.specs.Edges.{CellEdge, edge, sameEdge, crossed, pointEdges, numberOf}
 use Rattle.rules.specs.Closing.{allEdges, Carries, isUndivided, isOdd}
 use Rattle.base.proofs.Tests.{and→, →and, eq→eqb}
 use Rattle.base.proofs.Lists.{In, any→in, in→any, in-get, get-any, position-of, in-keep, keep-in, in-map, map-in, in-collect, collect-in, count-in}
 use Rattle.base.proofs.Sums.{times, sum-keep-le, position-once, length-le, collect-once, map-once, count-once}
 use Rattle.base.proofs.Places.{same→, same-refl, each-axis, axis-once}
-use Rattle.octree.proofs.Lawful.{Octree, Lawful}
-use Rattle.octree.proofs.Edges.{same-edge→, same-edge, edge→, undivided→, crossed→, →crossed, all-edges-in, all-edges-once}
+use Rattle.octree.proofs.Lawful.{Lawful}
+use Rattle.octree.proofs.Edges.{same-edge→, same-edge, edge→, lower-end, undivided→, crossed→, →crossed, all-edges-in, all-edges-once}
 use Rattle.octree.proofs.Rising.{rising-once}
 
 abbrev pub Crossed : Survey → CellEdge → Type 0
@@ -81,9 +81,9 @@ module _ (s : Survey) (law : Lawful s) where
   pub crossed-point : (e : CellEdge) → Crossed s e → In e (pointEdges s)
   unfolding pointEdges edgesOn edgesFrom
   crossed-point e t =
-      let u = undivided→ (s .cells) (e .axis) (e .low) (e .level) (crossed→ s (e .axis) (e .low) (e .level) t .0) in
-      let (q, c, g, f) = edge→ (s .cells) (e .axis) (e .low) (e .level) (u .0) in
-      let r = any→in (same (e .low)) (s .places) (law .listed (e .level) q (e .low) c f) in
+      let u = undivided→ (s .cells) (e .axis) (e .low) (e .level) (crossed→ s (e .axis) (e .low) (e .level) t .0) .0 in
+      let (q, c, g, f) = edge→ (s .cells) (e .axis) (e .low) (e .level) u in
+      let r = any→in (same (e .low)) (s .places) (lower-end s law (e .axis) (e .low) (e .level) u) in
       →among s (count 0 11) e t (subst (λ x. In x (s .places)) (sym (same→ (e .low) (r .0) (r .2))) (r .1))
       (count-in 11 0 (e .level) (omega arith) (omega (arith, law .octree .shallow (e .level) q c)))
 

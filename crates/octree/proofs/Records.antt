@@ -3,7 +3,7 @@
 use Prim.Native.Nat.{ℕ, zero, suc, pred, _+_, _*_, _/_, _^_, _≤_, _<_}
 use mathlib.Core.Path.{_≡_, refl, sym, ap, _∙_, subst}
 use mathlib.Core.Bool.{Bool, true, false, not, _&&_, cond}
-use mathlib.Core.List.{List, [], _∷_, _++_, map, map-append}
+use mathlib.Core.List.{List, [], _∷_, _++_, map}
 use native.Mathlib.Omega.{arith}
 use lib.Dec.{T, eqb, eqb→eq}
 use lib.ListN.{length, length-append, length-drop, length-map, getD, drop, List·getD-append, List·getD-map}
@@ -186,13 +186,7 @@ module _ (t : List ℕ) (three : T (entriesRight 0 0 (entries t))) where
   split-record d n h s = record {
     entry-is = sym e ∙ rule .0;
     above = omega (arith, rule .1, e);
-    fits = (
-        let r = rule .0 in
-        let w = later .1 in
-        let k : cond (eqb m 0) (splits n es) (suc (splits n es)) ≡ suc (splits n es) = ap (λ b. cond b (splits n es) (suc (splits n es))) (false→ (eqb m 0) s′) in
-        let f = queue-fits (suc n) (cond (eqb m 0) (splits n es) (suc (splits n es))) (drop (suc n) es) (a .rest ++ cond (eqb m 0) [] (children (a .first))) later in
-        omega (arith, length-drop (suc n) es, entry-count t, e)
-        );
+    fits = omega (arith, room-left, e);
     child-level = λ i hi. ap (λ (c : Cell). c .level) (kid i hi);
     child-low = λ i hi. ap (λ (c : Cell). c .low) (kid i hi);
   }
@@ -215,11 +209,13 @@ module _ (t : List ℕ) (three : T (entriesRight 0 0 (entries t))) where
       rule : (m ≡ 1 + 8 * splits n es) × (n < m)
       rule = split-rule n (splits n es) m (drop (suc n) es) (a .waits .0) s′
 
-      k : ℕ
-      k = cond (eqb m 0) (splits n es) (suc (splits n es))
-
-      later : Waiting (suc n) k (drop (suc n) es) (a .rest ++ cond (eqb m 0) [] (children (a .first)))
-      later = next-waits n (splits n es) m (drop (suc n) es) (a .first) (a .rest) (a .waits)
+      room-left : m + 7 < length t / 4
+      room-left =
+          let later = next-waits n (splits n es) m (drop (suc n) es) (a .first) (a .rest) (a .waits) in
+          let k = cond (eqb m 0) (splits n es) (suc (splits n es)) in
+          let fits = queue-fits (suc n) k (drop (suc n) es) (a .rest ++ cond (eqb m 0) [] (children (a .first))) later in
+          let one-more : k ≡ suc (splits n es) = ap (λ b. cond b (splits n es) (suc (splits n es))) (false→ (eqb m 0) s′) in
+          omega (arith, rule .0, later .1, length-drop (suc n) es, entry-count t)
 
       kid : (i : ℕ) → i < 8 → unmarked (getD (cellsOf t) (entry t n + i) d) ≡
           cell (getD (octants (2 ^ pred (getD (cellsOf t) n d .level)) (getD (cellsOf t) n d .low)) i origin) (pred (getD (cellsOf t) n d .level)) false

@@ -7,12 +7,12 @@ use mathlib.Core.List.{List, [], _∷_, _++_, map}
 use native.Mathlib.Omega.{arith}
 use lib.Dec.{T, T-not, not-T, eqb}
 use Rattle.base.specs.Lists.{any, collect, sum, bit}
-use Rattle.base.specs.Grid.{Place, origin, Axis, along, octants}
+use Rattle.base.specs.Grid.{Place, origin, octants}
 use Rattle.rules.specs.Survey.{Cell, cell, children, cellsFrom, cellsOf, entries}
 use Rattle.rules.specs.Outputs.{entriesRight}
 use Rattle.base.proofs.Tests.{→and, false→, below, eq→eqb, bit-le}
-use Rattle.base.proofs.Lists.{In, in-append, any→in, in→any, in-map, map-in, in-collect, collect-in}
-use Rattle.base.proofs.Sums.{sum-append, sum-add, sum-zero, sum-le, sum-same, sum-map, sum-collect}
+use Rattle.base.proofs.Lists.{In, in-append, in→any, in-map, map-in, in-collect, collect-in}
+use Rattle.base.proofs.Sums.{sum-add, sum-zero, sum-le, sum-same, sum-map, sum-collect}
 use Rattle.base.proofs.Octants.{octant→, →octant}
 use Rattle.octree.proofs.Lawful.{isAt, isCell, isSplit, copies, CornerOf, Octree}
 use Rattle.octree.proofs.Cells.{at→, cell→, →cell, split→, →split}

@@ -1,0 +1,4 @@
+pub mod Entries
+pub mod Octants
+pub mod Written
+pub mod Laying

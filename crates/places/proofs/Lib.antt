@@ -1,0 +1,4 @@
+pub mod Reckoned
+pub mod Stored
+pub mod Bound
+pub mod OnEdge

@@ -1,0 +1,85 @@
+-- In an accepted survey every edge that carries a point has two listed corners as its ends, within the box; so the point's place lies on it.
+-- Assumes nothing.
+use Prim.Native.Nat.{ℕ, _+_, _*_, _/_, _^_}
+use mathlib.Core.Path.{_≡_, refl, sym, ap, subst}
+use mathlib.Core.Logic.{_⊎_, inl, inr}
+use mathlib.Core.Bool.{Bool, true, false, _||_, cond}
+use mathlib.Core.List.{List, [], _∷_, map}
+use native.Mathlib.Omega.{arith}
+use lib.Dec.{T}
+use lib.IntN.{pos}
+use lib.ListN.{length}
+use lib.Ieee.{Float, fin, binary32, ofBits, fits}
+use lib.Ieee.Bits.{ofBits-fits}
+use Rattle.base.specs.Lists.{any, first, count, little, bytes}
+use Rattle.base.specs.Grid.{Place, along, same}
+use Rattle.base.proofs.Lists.{In, in-map}
+use Rattle.base.proofs.Places.{put-one}
+use Rattle.rules.specs.Survey.{cornerRecord, cornersOf, placeOf, cornerAt, Survey}
+use Rattle.rules.specs.Edges.{CellEdge, upperEnd, isEdge, spotOn, OnEdge}
+use Rattle.rules.specs.Outputs.{inRange, surveyOf, accepted}
+use Rattle.rules.specs.Closing.{Carries}
+use Rattle.rules.specs.declared.Corner.{Corner}
+use Rattle.octree.proofs.Lawful.{CornerOf, Lawful}
+use Rattle.octree.proofs.Accepted.{checked, accepted→, lawful}
+use Rattle.octree.proofs.Edges.{edge→, undivided→, crossed→}
+use Rattle.octree.proofs.Aligned.{edge-in-box}
+use Rattle.octree.proofs.Points.{carried-crossed}
+use Rattle.places.proofs.Bound.{Sounding, spot-bounded}
+
+-- both ends of an edge are listed
+pub ends-listed : (s : Survey) → Lawful s → (e : CellEdge) → T (isEdge (s .cells) (e .axis) (e .low) (e .level))
+    → T (any (same (e .low)) (s .places)) × T (any (same (upperEnd e)) (s .places))
+ends-listed s law e t =
+    let a = e .axis in
+    let (q, c, start, corner) = edge→ (s .cells) a (e .low) (e .level) t in
+    let upper : CornerOf (e .level) q (upperEnd e) =
+    put-one (λ b v. (v ≡ along b q) ⊎ (v ≡ along b q + 2 ^ e .level)) a (along a (e .low) + 2 ^ e .level) (e .low)
+    (inr (ap (λ (n : ℕ). n + 2 ^ e .level) start)) corner in
+    (law .listed (e .level) q (e .low) c corner, law .listed (e .level) q (upperEnd e) c upper)
+
+-- what holds of every corner of the table holds of the one at a listed place
+at-listed : (P : Corner → Type 0) (cs : List Corner) (q : Place) → ((c : Corner) → In c cs → P c) → T (any (same q) (map placeOf cs)) → P (cornerAt cs q)
+unfolding cornerAt
+at-listed P cs q h t = go cs h t
+  where
+    d : Corner
+    d = record { x = q .x; y = q .y; z = q .z; sounding = fin false 0 (pos 0) }
+
+    go : (cs : List Corner) → ((c : Corner) → In c cs → P c) → T (any (same q) (map placeOf cs)) → P (first (λ c. same q (placeOf c)) d cs)
+    go [] h t = absurd t
+    go (c ∷ cs) h t = pick (same q (placeOf c)) t (h c (inl refl)) (go cs (λ x i. h x (inr i)))
+      where
+        pick : (b : Bool) → T (b || any (same q) (map placeOf cs)) → P c → (T (any (same q) (map placeOf cs)) → P (first (λ c. same q (placeOf c)) d cs))
+            → P (cond b c (first (λ c. same q (placeOf c)) d cs))
+        pick true t u r = u
+        pick false t u r = r t
+
+record-fits : (t : List ℕ) (k : ℕ) → T (fits binary32 (cornerRecord t k .sounding))
+unfolding cornerRecord
+record-fits t k = ofBits-fits binary32 (little (bytes (bytes t (10 * k) 10) 6 4))
+
+sounding-in : (t : List ℕ) → ((c : Corner) → In c (cornersOf t) → T (inRange (c .sounding))) → (c : Corner) → In c (cornersOf t) → Sounding (c .sounding)
+unfolding cornersOf
+sounding-in t h c i =
+    let (k, j, e) = in-map (cornerRecord t) (count 0 (length t / 10)) c i in
+    record { in-range = h c i; holds = subst (λ x. T (fits binary32 (x .sounding))) (sym e) (record-fits t k) }
+
+module _ (tc tk : List ℕ) (clearance : Float) (ok : T (accepted tc tk clearance)) where
+  -- the corner at a listed place has a sounding in range
+  sounded : (q : Place) → T (any (same q) (surveyOf tc tk clearance .places)) → Sounding (cornerAt (cornersOf tk) q .sounding)
+  unfolding surveyOf
+  sounded q t =
+      at-listed (λ c. Sounding (c .sounding)) (cornersOf tk) q (sounding-in tk (checked tc tk (accepted→ tc tk clearance ok .0) .soundings)) t
+
+  -- the place of the point that an edge carries never leaves the edge
+  pub on-edge : (e : CellEdge) (p : ℕ) → Carries (surveyOf tc tk clearance) e p → OnEdge e (spotOn (cornersOf tk) clearance e)
+  unfolding surveyOf
+  on-edge e p carries =
+      let s = surveyOf tc tk clearance in
+      let law : Lawful s = lawful tc tk clearance ok in
+      let (u, odd) = crossed→ s (e .axis) (e .low) (e .level) (carried-crossed s e p carries) in
+      let t = undivided→ (s .cells) (e .axis) (e .low) (e .level) u .0 in
+      let (lower, upper) = ends-listed s law e t in
+      let inBox = edge-in-box (s .cells) (law .octree) (e .axis) (e .low) (e .level) t in
+      spot-bounded (cornersOf tk) clearance e (omega arith) (accepted→ tc tk clearance ok .1) (sounded (e .low) lower) (sounded (upperEnd e) upper) odd

@@ -1,0 +1,5 @@
+pub mod Bytes
+pub mod Patterns
+pub mod Keys
+pub mod Search
+pub mod Found

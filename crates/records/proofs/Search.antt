@@ -1,0 +1,134 @@
+-- Records that rise: check 5 record by record, and a search by halving for the record with a key.
+use Prim.Native.Nat.{ℕ, zero, suc, _+_, _/_, _≤_, _<_}
+use mathlib.Core.Path.{_≡_, refl, sym, ap, _∙_}
+use mathlib.Core.Bool.{Bool, true, false, _&&_, cond, false≢true}
+use mathlib.Core.List.{List, [], _∷_}
+use native.Mathlib.Numerals.{add-one}
+use native.Mathlib.Nat.{zero-add}
+use native.Mathlib.Decide.{ℕ-discrete, decLt}
+use native.Mathlib.Omega.{arith}
+use lib.Dec.{eqb, ltb}
+use lib.ListN.{length, getD, drop, length-drop, drop-of-length-le}
+use borrow.Author.Tests.{lt-ltb, le-ltb, eq-eqb, ne-eqb, ltb-true}
+use Rattle.base.specs.Lists.{position}
+use Rattle.base.specs.Grid.{Place}
+use Rattle.base.proofs.Below.{rest, position-at, position-none, position-le}
+use Rattle.rules.specs.Survey.{cornerRecord, placeOf, cornersOf}
+use Rattle.rules.specs.Outputs.{before, rising}
+use Rattle.records.specs.Keys.{keyOf, placesOf, recordAt}
+use Rattle.records.proofs.Keys.{Bytes, Short, nowhere, before-key, record-short, get-place, length-places}
+
+-- the key of record k
+abbrev pub keyAt : List ℕ → ℕ → ℕ
+keyAt t k = keyOf (placeOf (cornerRecord t k))
+
+-- ---- check 5, one record further
+
+rising-cons : (p q : Place) (r : List Place) → rising (p ∷ q ∷ r) ≡ before p q && rising (q ∷ r)
+unfolding rising
+rising-cons p q r = refl
+
+rising-turn : (ps : List Place) (d : Place) (i : ℕ) → i + 1 < length ps
+    → rising (drop i ps) ≡ before (getD ps i d) (getD ps (i + 1) d) && rising (drop (i + 1) ps)
+rising-turn ps d i h =
+    rw (rest ps i d (omega arith), rest ps (i + 1) d h) (rising-cons (getD ps i d) (getD ps (i + 1) d) (drop (i + 1 + 1) ps))
+
+rising-short : (ps : List Place) → length ps ≤ 1 → rising ps ≡ true
+unfolding rising
+rising-short [] h = refl
+rising-short (p ∷ []) h = refl
+rising-short (p ∷ q ∷ r) h = absurd (omega arith)
+
+module _ (t : List ℕ) (b : Bytes t) where
+  next-before : (i : ℕ) → i + 1 < length t / 10
+      → before (getD (placesOf t) i (placeOf nowhere)) (getD (placesOf t) (i + 1) (placeOf nowhere)) ≡ ltb (keyAt t i) (keyAt t (i + 1))
+  next-before i h =
+      rw (get-place t i (omega arith), get-place t (i + 1) h)
+      (before-key (placeOf (cornerRecord t i)) (placeOf (cornerRecord t (i + 1))) (record-short t b i (omega arith)) (record-short t b (i + 1) h))
+
+  turn : (i : ℕ) → i + 1 < length t / 10 → rising (drop i (placesOf t)) ≡ ltb (keyAt t i) (keyAt t (i + 1)) && rising (drop (i + 1) (placesOf t))
+  turn i h =
+      rising-turn (placesOf t) (placeOf nowhere) i (rw (length-places t) h)
+      ∙ ap (λ w. w && rising (drop (i + 1) (placesOf t))) (next-before i h)
+
+  pub rise-breaks : (i : ℕ) → i + 1 < length t / 10 → keyAt t (i + 1) ≤ keyAt t i → rising (drop i (placesOf t)) ≡ false
+  rise-breaks i h g = turn i h ∙ rw (le-ltb (keyAt t i) (keyAt t (i + 1)) g)
+
+  pub rise-goes-on : (i : ℕ) → i + 1 < length t / 10 → keyAt t i < keyAt t (i + 1) → rising (drop (i + 1) (placesOf t)) ≡ rising (drop i (placesOf t))
+  rise-goes-on i h g = sym (turn i h ∙ rw (lt-ltb (keyAt t i) (keyAt t (i + 1)) g))
+
+  pub rise-ends : (i : ℕ) → length t / 10 ≤ i + 1 → rising (drop i (placesOf t)) ≡ true
+  rise-ends i h = rising-short (drop i (placesOf t)) (rw (length-drop i (placesOf t), length-places t) (omega arith))
+
+  -- ---- what a strict rise gives
+
+  module _ (up : rising (placesOf t) ≡ true) where
+    left : (i : ℕ) → i < length t / 10 → rising (drop i (placesOf t)) ≡ true
+    left zero h = up
+    left (suc i) h = rw add-one at (go (ltb (keyAt t i) (keyAt t (i + 1))) (rising (drop (i + 1) (placesOf t))) (sym (left i (omega arith)) ∙ turn i (omega arith)))
+      where
+        go : (a c : Bool) → true ≡ a && c → c ≡ true
+        go true c e = sym e
+        go false c e = absurd (false≢true (sym e))
+
+    step : (i : ℕ) → i + 1 < length t / 10 → keyAt t i < keyAt t (i + 1)
+    step i h = ltb-true (keyAt t i) (keyAt t (i + 1)) (go (ltb (keyAt t i) (keyAt t (i + 1))) (rising (drop (i + 1) (placesOf t))) (sym (left i (omega arith)) ∙ turn i h))
+      where
+        go : (a c : Bool) → true ≡ a && c → a ≡ true
+        go true c e = refl
+        go false c e = sym e
+
+    -- an earlier record has a smaller key
+    pub keys-rise : (i j : ℕ) → i < j → j < length t / 10 → keyAt t i < keyAt t j
+    keys-rise i zero h l = absurd (omega arith)
+    keys-rise i (suc m) h l = go (ℕ-discrete i m) (λ q. keys-rise i m q (omega arith))
+      where
+        next : keyAt t m < keyAt t (suc m)
+        next = rw add-one at (step m (omega arith))
+
+        go : Dec (i ≡ m) → (i < m → keyAt t i < keyAt t m) → keyAt t i < keyAt t (suc m)
+        go (yes q) f = rw q next
+        go (no q) f = omega (arith, f (omega arith), next)
+
+    pub below-middle : (m k : ℕ) → m < length t / 10 → keyAt t m < k → (j : ℕ) → j < m + 1 → keyAt t j < k
+    below-middle m k l h j q = go (ℕ-discrete j m)
+      where
+        go : Dec (j ≡ m) → keyAt t j < k
+        go (yes e) = rw e h
+        go (no e) = omega (arith, keys-rise j m (omega arith) l)
+
+    pub from-middle : (m k : ℕ) → k ≤ keyAt t m → (j : ℕ) → m ≤ j → j < length t / 10 → k ≤ keyAt t j
+    from-middle m k h j q l = go (ℕ-discrete j m)
+      where
+        go : Dec (j ≡ m) → k ≤ keyAt t j
+        go (yes e) = rw e h
+        go (no e) = omega (arith, keys-rise m j (omega arith) l)
+
+-- ---- where the search ends
+
+module _ (t : List ℕ) (k : ℕ) where
+  at-record : (j : ℕ) (r : Bool) → j < length t / 10 → eqb k (keyAt t j) ≡ r → eqb k (keyOf (getD (placesOf t) j (placeOf nowhere))) ≡ r
+  at-record j r h e = rw (get-place t j h) e
+
+  pub is-at : (i : ℕ) → i < length t / 10 → k ≡ keyAt t i → ((j : ℕ) → j < i → keyAt t j < k) → i ≡ recordAt t k
+  unfolding recordAt
+  is-at i h e g =
+      sym (position-at (λ p. eqb k (keyOf p)) (placeOf nowhere) (placesOf t) 0 i (rw (length-places t) h)
+      (at-record i true h (eq-eqb k (keyAt t i) e))
+      (λ j l. at-record j false (omega arith) (ne-eqb k (keyAt t j) (λ q. omega (arith, g j l)))) ∙ zero-add i)
+
+  pub is-nowhere : (i : ℕ) → ((j : ℕ) → j < i → keyAt t j < k) → ((j : ℕ) → i ≤ j → j < length t / 10 → k < keyAt t j) → length t / 10 ≡ recordAt t k
+  unfolding recordAt
+  is-nowhere i g f =
+      sym (position-none (λ p. eqb k (keyOf p)) (placeOf nowhere) (placesOf t) 0
+      (λ j l. let h : j < length t / 10 = rw (length-places t) at l in at-record j false h (ne-eqb k (keyAt t j) (go j h (decLt j i))))
+      ∙ zero-add (length (placesOf t)) ∙ length-places t)
+    where
+      go : (j : ℕ) → j < length t / 10 → Dec (j < i) → k ≡ keyAt t j → ⊥
+      go j h (yes l) q = omega (arith, g j l)
+      go j h (no l) q = omega (arith, f j (omega arith) h)
+
+  -- the look-up gives a record, or the number of records
+  pub record-at-le : recordAt t k ≤ length t / 10
+  unfolding recordAt
+  record-at-le = omega (arith, position-le (λ p. eqb k (keyOf p)) (placesOf t) 0, length-places t)

@@ -1,0 +1,45 @@
+use native.Mathlib.Omega.{arith}
+use Rattle.records.proofs.Bytes.{little-four}
+use borrow.Author.Needs.{needs}
+use Rattle.records.proofs.read32.Statement.{statement}
+use Rattle.records.proofs.read32.Tie as tie
+
+read16-requires : tie.Need-read16-requires
+read16-requires c κs = search needs
+
+cast-result : tie.Need-cast-result
+cast-result c = search needs
+
+add-read16 : tie.Need-add-read16
+add-read16 c = search needs
+
+read16-requires-2 : tie.Need-read16-requires-2
+read16-requires-2 c κs = search needs
+
+cast-result-2 : tie.Need-cast-result-2
+cast-result-2 c = search needs
+
+mul-result : tie.Need-mul-result
+mul-result c = search needs
+
+add-result : tie.Need-add-result
+add-result c = search needs
+
+returns : tie.Need-returns
+returns c =
+    let a = c .before .before .before in
+    let e = little-four (a .args .s .now) (a .args .at) (a .pre) in
+    rw e (search needs)
+
+pub read32-spec : {M : Type 1} → statement M
+read32-spec =
+    tie.close
+    (tie.spec
+    read16-requires
+    cast-result
+    add-read16
+    read16-requires-2
+    cast-result-2
+    mul-result
+    add-result
+    returns)

@@ -1,0 +1,117 @@
+-- What `le` says of finite floats of any signs, as one inequality of natural numbers: a float is read as (hi - lo) / den.
+-- Assumes nothing.
+use Prim.Native.Nat.{ℕ, _+_, _*_, _≤_, _<_}
+use mathlib.Core.Path.{_≡_, refl, sym, _∙_, subst}
+use mathlib.Core.Logic.{inl, inr, _⊎_}
+use mathlib.Core.Bool.{Bool, true, false, _&&_, _||_}
+use native.Mathlib.Nat.{le-of-eq, eq-or-lt-of-le, mul-le-mul-right, mul-lt-mul-of-pos-right, lt-of-mul-lt-mul-right}
+use native.Mathlib.Omega.{arith}
+use lib.IntN.{pos}
+use lib.Dec.{T, leb, ltb, eqb, leb→le, le→leb, ltb→lt, lt→ltb, eqb→eq}
+use lib.Ieee.{Float, nan, inf, fin, Format, up, down, le, ofInt}
+use lib.Ieee.Fits.{and-i, and-l, and-r, eq→eqb}
+use lib.Ieee.Scale.{finite}
+use lib.Ieee.Positive.{den, den-pos}
+use borrow.Author.Tests.{leb-true, leb-false}
+
+-- a finite float is (hi - lo) / den, and one of hi and lo is 0
+abbrev pub hi : Float → ℕ
+hi nan = 0
+hi (inf s) = 0
+hi (fin true m e) = 0
+hi (fin false m e) = m * up e
+
+abbrev pub lo : Float → ℕ
+lo nan = 0
+lo (inf s) = 0
+lo (fin true m e) = m * up e
+lo (fin false m e) = 0
+
+-- x ≤ y, and x < y, with the denominators multiplied out
+abbrev pub Le : Float → Float → Type 0
+Le x y = hi x * den y + lo y * den x ≤ hi y * den x + lo x * den y
+
+abbrev pub Lt : Float → Float → Type 0
+Lt x y = hi x * den y + lo y * den x < hi y * den x + lo x * den y
+
+-- r is a number from low to high, ends included: no NaN and no infinity, since every comparison with a NaN is false
+abbrev pub Between : Format → ℕ → ℕ → Float → Type 0
+Between f low high r = T (le (ofInt f (pos low)) r) × T (le r (ofInt f (pos high)))
+
+-- two tests that say the same are equal
+same : (a b : Bool) → (T a → T b) → (T b → T a) → a ≡ b
+same true true p q = refl
+same true false p q = absurd (p tt)
+same false true p q = absurd (q tt)
+same false false p q = refl
+
+leb-same : (a b c d : ℕ) → (a ≤ b → c ≤ d) → (c ≤ d → a ≤ b) → leb a b ≡ leb c d
+leb-same a b c d p q = same (leb a b) (leb c d) (λ t. le→leb c d (p (leb→le a b t))) (λ t. le→leb a b (q (leb→le c d t)))
+
+eqb-of : (a b : ℕ) → a ≡ b → T (eqb a b)
+eqb-of a b h = eq→eqb h
+
+or-is : (x y w : Bool) → (T x → T w) → (T y → T w) → (T w → T x ⊎ T y) → (x || y) ≡ w
+or-is x y w p q r = same (x || y) w (to x y p q) (λ t. from x y (r t))
+  where
+    to : (x y : Bool) → (T x → T w) → (T y → T w) → T (x || y) → T w
+    to true y p q t = p tt
+    to false y p q t = q t
+
+    from : (x y : Bool) → T x ⊎ T y → T (x || y)
+    from true y c = tt
+    from false y (inl t) = absurd t
+    from false y (inr t) = t
+
+-- a < b, or a test z that says a ≡ b
+le-or : (a b : ℕ) (z : Bool) → (T z → a ≡ b) → (a ≡ b → T z) → (ltb a b || (z && true)) ≡ leb a b
+le-or a b z p q =
+    or-is (ltb a b) (z && true) (leb a b) (λ t. omega (arith, ltb→lt, le→leb)) (λ t. le→leb a b (le-of-eq (p (and-l z true t))))
+    (λ t. elim (eq-or-lt-of-le (leb→le a b t)) [ inl e ↦ inr (and-i z true (q e) tt) | inr h ↦ inl (lt→ltb a b h) ])
+
+-- the comparison is the test of the inequality
+le-is : (x y : Float) → T (finite x) → T (finite y)
+    → le x y ≡ leb (hi x * den y + lo y * den x) (hi y * den x + lo x * den y)
+unfolding le
+le-is (fin false m e) (fin false n d) p q =
+    let a = m * up e * down d in
+    let b = n * up d * down e in
+    le-or a b (eqb a b) (eqb→eq a b) (λ h. eq→eqb h)
+    ∙ leb-same a b (a + 0 * down e) (b + 0 * down d) (λ h. omega arith) (λ h. omega arith)
+le-is (fin false m e) (fin true n d) p q =
+    let a = m * up e * down d in
+    let b = n * up d * down e in
+    or-is false (eqb a b && eqb a 0) (leb (a + b) (0 * down e + 0 * down d)) (λ t. absurd t)
+    (λ t.
+    let h : a ≡ b = eqb→eq a b (and-l (eqb a b) (eqb a 0) t) in
+    let k : a ≡ 0 = eqb→eq a 0 (and-r (eqb a b) (eqb a 0) t) in
+    omega (arith, le→leb))
+    (λ t.
+    let h : a + b ≤ 0 * down e + 0 * down d = leb→le (a + b) (0 * down e + 0 * down d) t in
+    inr (and-i (eqb a b) (eqb a 0) (omega (arith, eqb-of)) (omega (arith, eqb-of))))
+le-is (fin true m e) (fin false n d) p q =
+    let a = m * up e * down d in
+    let b = n * up d * down e in
+    or-is (ltb 0 (a + b)) (eqb a b && eqb a 0) (leb (0 * down d + 0 * down e) (b + a)) (λ t. omega (arith, le→leb)) (λ t. omega (arith, le→leb))
+    (λ t. elim (eq-or-lt-of-le {n = 0} {m = a + b} (omega arith)) [
+      | inl h ↦ inr (and-i (eqb a b) (eqb a 0) (omega (arith, eqb-of)) (omega (arith, eqb-of)))
+      | inr h ↦ inl (lt→ltb 0 (a + b) h)
+    ])
+le-is (fin true m e) (fin true n d) p q =
+    let a = m * up e * down d in
+    let b = n * up d * down e in
+    le-or b a (eqb a b) (λ t. sym (eqb→eq a b t)) (λ h. eq→eqb (sym h))
+    ∙ leb-same b a (0 * down d + b) (0 * down e + a) (λ h. omega arith) (λ h. omega arith)
+
+module _ (x y : Float) (p : T (finite x)) (q : T (finite y)) where
+  pub le→Le : le x y ≡ true → Le x y
+  le→Le e = leb-true _ _ (sym (le-is x y p q) ∙ e)
+
+  pub not-le→Lt : le x y ≡ false → Lt y x
+  not-le→Lt e = leb-false _ _ (sym (le-is x y p q) ∙ e)
+
+  pub Le→le : Le x y → T (le x y)
+  Le→le h = subst T (sym (le-is x y p q)) (le→leb _ _ h)
+
+pub lt-le : (x y z : Float) → Lt x y → Le y z → Lt x z
+lt-le x y z h k = lt-of-mul-lt-mul-right (den y) (omega (arith, mul-lt-mul-of-pos-right h (den-pos z), mul-le-mul-right (den x) k))
