@@ -23,7 +23,7 @@ use Rattle.geometry.proofs.Closed.{closed}
 use Rattle.geometry.proofs.Sides.{parted, parted-unit}
 use Rattle.geometry.proofs.Small.{Bare, shown, leaf-shows, leaf-cell}
 use Rattle.geometry.proofs.Balance.{leaves-balance}
-use Rattle.geometry.proofs.Trees.{sibling-line}
+use Rattle.geometry.proofs.Trees.{OnLine, sibling-line}
 use Rattle.geometry.proofs.Points.{carried, pairHit, pair-blind, square-adds, twin-twice, twin-edges}
 use Rattle.geometry.proofs.Located.{hits, OffPlane, left-once, entered-once, none-shown}
 use Rattle.geometry.proofs.Outside.{Outer, one-off, no-tally, no-ends, dry-none}
@@ -51,9 +51,8 @@ unfolding step
 step-turn p q a b = ap bit (and-turn (eqb p b) (eqb q a))
 
 -- edges on one line lie in the same planes
-off-line : (e f : CellEdge) (b : Axis) (m : ℕ) → f .axis ≡ e .axis → along (next (e .axis)) (f .low) ≡ along (next (e .axis)) (e .low)
-    → along (next (next (e .axis))) (f .low) ≡ along (next (next (e .axis))) (e .low) → OffPlane f b m → OffPlane e b m
-off-line e f b m x y z (o, o′) = (
+off-line : (e f : CellEdge) (b : Axis) (m : ℕ) → OnLine (e .axis) e f → OffPlane f b m → OffPlane e b m
+off-line e f b m (x, y, z) (o, o′) = (
   λ q p. o (q ∙ ap next (sym x)) (ap (λ a. along (next a) (f .low)) x ∙ y ∙ p),
   λ q p. o′ (q ∙ ap (λ a. next (next a)) (sym x)) (ap (λ a. along (next (next a)) (f .low)) x ∙ z ∙ p),
 )
@@ -154,19 +153,17 @@ module _ (s : Survey) (law : Lawful s) where
   -- over all leaves, as many steps leave a point as enter it, if its edge and its twin's lie in no outer face together
   pub ends-even : (e f : CellEdge) (p q : ℕ) → Carries s e p → Carries s f q → T (not (inOneFace e f)) → twinOf s p ≡ q → p ≢ q
       → sum (λ c. leave (leafSteps s c) p) (leavesOf s) ≡ sum (λ c. enter (leafSteps s c) p) (leavesOf s)
-  ends-even e f p q ce cf h t n =
-      let (x, y, z) = sibling-line s law (edgeOf s p .axis) (edgeOf s p) (edgeOf s (twinOf s p)) (twin-edges s law p (ce .0) (λ i. n (i ∙ t))) in
-      even-ends p (no-ends s law p (λ b m o. go b m x y z (one-off (edgeOf s p) (edgeOf s (twinOf s p)) h′ b m o)))
+  ends-even e f p q ce cf h t n = even-ends p (no-ends s law p (λ b m o. go b m (one-off (edgeOf s p) (edgeOf s (twinOf s p)) h′ b m o)))
     where
       h′ : T (not (inOneFace (edgeOf s p) (edgeOf s (twinOf s p))))
       h′ = rw (t, carried s e p ce, carried s f q cf) h
 
-      go : (b : Axis) (m : ℕ) → (edgeOf s (twinOf s p)) .axis ≡ (edgeOf s p) .axis
-          → along (next ((edgeOf s p) .axis)) ((edgeOf s (twinOf s p)) .low) ≡ along (next ((edgeOf s p) .axis)) ((edgeOf s p) .low)
-          → along (next (next ((edgeOf s p) .axis))) ((edgeOf s (twinOf s p)) .low) ≡ along (next (next ((edgeOf s p) .axis))) ((edgeOf s p) .low)
-          → OffPlane (edgeOf s p) b m ⊎ OffPlane (edgeOf s (twinOf s p)) b m → OffPlane (edgeOf s p) b m
-      go b m x y z (inl o) = o
-      go b m x y z (inr o) = off-line (edgeOf s p) (edgeOf s (twinOf s p)) b m x y z o
+      line : OnLine (edgeOf s p .axis) (edgeOf s p) (edgeOf s (twinOf s p))
+      line = sibling-line s law (edgeOf s p .axis) (edgeOf s p) (edgeOf s (twinOf s p)) (twin-edges s law p (ce .0) (λ i. n (i ∙ t)))
+
+      go : (b : Axis) (m : ℕ) → OffPlane (edgeOf s p) b m ⊎ OffPlane (edgeOf s (twinOf s p)) b m → OffPlane (edgeOf s p) b m
+      go b m (inl o) = o
+      go b m (inr o) = off-line (edgeOf s p) (edgeOf s (twinOf s p)) b m line o
 
   -- The same for all points, where every place on the outside of the box is dry.
   module _ (dry : (p : Place) (b : Axis) → Outer (along b p) → s .isWet p ≡ false) where

@@ -187,6 +187,10 @@ module _ (s : Survey) (a : Axis) where
     pub here : e ≡ carrier s a (halfOf a level upper whole) level
     pub there : t ≡ carrier s a (halfOf a level (not upper) whole) level
 
+-- two edges along the axis a are on one line
+abbrev pub OnLine : Axis → CellEdge → CellEdge → Type 0
+OnLine a e f = (f .axis ≡ e .axis) × (along (next a) (f .low) ≡ along (next a) (e .low)) × (along (next (next a)) (f .low) ≡ along (next (next a)) (e .low))
+
 -- the twin of the point of an undivided edge
 abbrev pub twinEdge : Survey → CellEdge → Option CellEdge
 twinEdge s e = twin s 10 (e .axis) (e .low) (e .level)
@@ -298,8 +302,7 @@ module _ (s : Survey) (law : Lawful s) (a : Axis) where
       rw (h .here) (carrier-below (h .level) q (sibling-edge e t h) (h .is-odd))
 
   -- siblings are on one line
-  pub sibling-line : (e t : CellEdge) → Siblings s a e t → (t .axis ≡ e .axis) × (along (next a) (t .low) ≡ along (next a) (e .low))
-      × (along (next (next a)) (t .low) ≡ along (next (next a)) (e .low))
+  pub sibling-line : (e t : CellEdge) → Siblings s a e t → OnLine a e t
   unfolding sibling-back
   sibling-line e t h =
       let h′ = sibling-back e t h in
