@@ -10,9 +10,7 @@ fn main() {
     let directory = std::env::args().nth(1).unwrap_or_else(|| ".".into());
     let directory = Path::new(&directory);
     // A clearance of another length is refusal 8, after 1 to 7, as a clearance that is not a number is.
-    let clearance = read(directory, "clearance")
-        .try_into()
-        .map_or(f32::NAN, f32::from_le_bytes);
+    let clearance = read(directory, "clearance").try_into().map_or(f32::NAN, f32::from_le_bytes);
     let cells = read(directory, "cells");
     let corners = read(directory, "corners");
     match drawing::draw_to_vec(&cells, &corners, clearance) {

@@ -1,0 +1,194 @@
+-- Check 6: what the look-ups and the marks say is what document 01 asks of the corners.
+use Prim.Native.Nat.{ℕ, zero, suc, _+_, _/_, _^_, _≤_, _<_}
+use mathlib.Core.Path.{_≡_, refl, sym, ap, _∙_, subst}
+use mathlib.Core.Logic.{_⊎_, inl, inr}
+use mathlib.Core.Bool.{Bool, true, false, _&&_, _||_, cond}
+use mathlib.Core.List.{List, [], _∷_, map}
+use native.Mathlib.Omega.{arith}
+use lib.Dec.{T, eqb, eqb→eq, ltb, lt→ltb, ltb→lt}
+use lib.ListN.{length, getD, replicate, length-replicate, getD-replicate}
+use Rattle.base.specs.Lists.{all, any, collect, count}
+use Rattle.base.specs.Grid.{Place, origin, Axis, X, Y, along, same, octants}
+use Rattle.base.proofs.Tests.{tests-equal, →true, eq→eqb}
+use Rattle.base.proofs.Lists.{in-get, position-of}
+use Rattle.base.proofs.Places.{same→, same-refl}
+use Rattle.base.proofs.Octants.{octant→}
+use Rattle.rules.specs.Survey.{Cell, size, entries, cellsOf, cellCorners, cornerRecord, placeOf}
+use Rattle.rules.specs.Outputs.{entriesRight, rising, cornersRight}
+use Rattle.octree.proofs.Queue.{box}
+use Rattle.octree.proofs.Records.{cell-count}
+use Rattle.records.specs.Keys.{keyOf, placesOf, recordAt}
+use Rattle.records.proofs.Keys.{Bytes, Short, nowhere, record-short, get-place, length-places}
+use Rattle.records.proofs.Search.{keyAt, keys-rise, is-at}
+use Rattle.records.proofs.Found.{record-at-place, listed-found, found-listed}
+use Rattle.cells.specs.Laid.{octantKey, cellAt, Entered, Laid}
+use Rattle.cells.proofs.Octants.{octant-key-is}
+use Rattle.checks.specs.Marks.{cornerNumbers, allNumbers, marked}
+use Rattle.checks.proofs.Counted.{all-count, any-count, all-collect, any-collect, all-map, any-map}
+use Rattle.checks.proofs.Marking.{mark-at}
+
+module _ (t : List ℕ) (b : Bytes t) where
+  -- a place is listed where the look-up finds a record
+  pub listed-is : (p : Place) → Short p → any (same p) (placesOf t) ≡ ltb (recordAt t (keyOf p)) (length t / 10)
+  listed-is p s =
+      tests-equal (any (same p) (placesOf t)) (ltb (recordAt t (keyOf p)) (length t / 10))
+      (λ l. lt→ltb (recordAt t (keyOf p)) (length t / 10) (listed-found t b p s l))
+      (λ f. found-listed t b p s (ltb→lt (recordAt t (keyOf p)) (length t / 10) f))
+
+  module _ (up : rising (placesOf t) ≡ true) where
+    -- the look-up by the key of a record finds that record
+    own-record : (k : ℕ) → k < length t / 10 → k ≡ recordAt t (keyAt t k)
+    own-record k h = is-at t (keyAt t k) k h refl (λ j l. keys-rise t b up j k l h)
+
+    -- record k is at a place where the look-up finds record k
+    pub record-is : (k : ℕ) (p : Place) → Short p → k < length t / 10 → same (getD (placesOf t) k (placeOf nowhere)) p ≡ eqb k (recordAt t (keyOf p))
+    record-is k p s h = rw (get-place t k h) (tests-equal (same here p) (eqb k (recordAt t (keyOf p))) forth back)
+      where
+        here : Place
+        here = placeOf (cornerRecord t k)
+
+        forth : T (same here p) → T (eqb k (recordAt t (keyOf p)))
+        forth q = eq→eqb k (recordAt t (keyOf p)) (own-record k h ∙ ap (λ z. recordAt t (keyOf z)) (same→ here p q))
+
+        back : T (eqb k (recordAt t (keyOf p))) → T (same here p)
+        back q =
+            let e = eqb→eq k (recordAt t (keyOf p)) q in
+            let l = found-listed t b p s (omega arith) in
+            let r = position-of (same p) (placeOf nowhere) (placesOf t) 0 l in
+            let j : r .0 ≡ k = omega (arith, r .1, record-at-place t b p s) in
+            let z : p ≡ here = same→ p (getD (placesOf t) (r .0) (placeOf nowhere)) (r .3) ∙ ap (λ m. getD (placesOf t) m (placeOf nowhere)) j ∙ get-place t k h in
+            subst (λ w. T (same w p)) z (same-refl p)
+
+-- corner i of the cell of record n
+abbrev pub corner : List ℕ → ℕ → ℕ → Place
+corner tc n i = getD (cellCorners (cellAt tc n)) i origin
+
+-- a corner of a cell that the tables hold: its key, and it fits 16 bits
+module _ (tc keys levels : List ℕ) (n : ℕ) (o : Entered tc keys levels n) (i : ℕ) (h : i < 8) where
+  pub corner-key : getD keys n 0 + octantKey i (2 ^ getD levels n 0) ≡ keyOf (corner tc n i)
+  corner-key =
+      ap (λ l. getD keys n 0 + octantKey i (2 ^ l)) (o .level) ∙ ap (λ k. k + octantKey i (2 ^ cellAt tc n .level)) (o .key)
+      ∙ sym (octant-key-is (2 ^ cellAt tc n .level) (cellAt tc n .low) origin i h)
+
+  in-reach : (a : Axis) → along a (corner tc n i) ≤ 1024
+  in-reach a =
+      go (octant→ (2 ^ cellAt tc n .level) (cellAt tc n .low) (corner tc n i) (in-get (cellCorners (cellAt tc n)) i origin h) a)
+    where
+      go : (along a (corner tc n i) ≡ along a (cellAt tc n .low))
+          ⊎ (along a (corner tc n i) ≡ along a (cellAt tc n .low) + 2 ^ cellAt tc n .level)
+          → along a (corner tc n i) ≤ 1024
+      go (inl e) = omega (arith, o .in-box a)
+      go (inr e) = omega (arith, o .in-box a)
+
+  pub corner-short : Short (corner tc n i)
+  corner-short = record { x-fits = omega (arith, in-reach X); y-fits = omega (arith, in-reach Y) }
+
+module _ (tc tk keys levels : List ℕ) (three : T (entriesRight 0 0 (entries tc))) (laid : Laid tc keys levels) (b : Bytes tk) where
+  -- the corner records of cell n
+  abbrev numbersAt : ℕ → List ℕ
+  numbersAt n = cornerNumbers tk (getD keys n 0) (getD levels n 0)
+
+  abbrev listed : Cell → Bool
+  listed c = all (λ p. any (same p) (placesOf tk)) (cellCorners c)
+
+  inside : (n : ℕ) → n < length (cellsOf tc) → Entered tc keys levels n
+  inside n h = laid .entered n (omega (arith, cell-count tc three))
+
+  cell-listed : (n : ℕ) → n < length (cellsOf tc) → listed (cellAt tc n) ≡ all (λ k. ltb k (length tk / 10)) (numbersAt n)
+  unfolding cornerNumbers
+  cell-listed n h =
+      all-count (λ p. any (same p) (placesOf tk)) origin (λ i. ltb (recordAt tk (getD keys n 0 + octantKey i (2 ^ getD levels n 0))) (length tk / 10))
+      (cellCorners (cellAt tc n)) 0
+      (λ i k. listed-is tk b (corner tc n i) (corner-short tc keys levels n (inside n h) i k)
+      ∙ ap (λ z. ltb (recordAt tk z) (length tk / 10)) (sym (corner-key tc keys levels n (inside n h) i k))
+      ∙ ap (λ j. ltb (recordAt tk (getD keys n 0 + octantKey j (2 ^ getD levels n 0))) (length tk / 10)) (let e : i ≡ 0 + i = omega arith in e))
+      ∙ sym (all-map (λ k. ltb k (length tk / 10)) (λ i. recordAt tk (getD keys n 0 + octantKey i (2 ^ getD levels n 0))) (count 0 8))
+
+  -- every corner of every cell is listed where every look-up finds a record
+  pub all-listed : all listed (cellsOf tc) ≡ all (λ k. ltb k (length tk / 10)) (allNumbers tk keys levels (length tc / 4))
+  unfolding allNumbers
+  all-listed =
+      all-count listed box (λ n. all (λ k. ltb k (length tk / 10)) (numbersAt n)) (cellsOf tc) 0
+      (λ n h. cell-listed n h ∙ ap (λ m. all (λ k. ltb k (length tk / 10)) (numbersAt m)) (let e : n ≡ 0 + n = omega arith in e))
+      ∙ ap (λ m. all (λ n. all (λ k. ltb k (length tk / 10)) (numbersAt n)) (count 0 m)) (cell-count tc three)
+      ∙ sym (all-collect (λ k. ltb k (length tk / 10)) numbersAt (count 0 (length tc / 4)))
+
+  module _ (up : rising (placesOf tk) ≡ true) where
+    -- a record is a corner of cell n
+    cell-corner : (k : ℕ) → k < length tk / 10 → (n : ℕ) → n < length (cellsOf tc)
+        → any (same (getD (placesOf tk) k (placeOf nowhere))) (cellCorners (cellAt tc n)) ≡ any (eqb k) (numbersAt n)
+    unfolding cornerNumbers
+    cell-corner k l n h =
+        any-count (same (getD (placesOf tk) k (placeOf nowhere))) origin
+        (λ i. eqb k (recordAt tk (getD keys n 0 + octantKey i (2 ^ getD levels n 0)))) (cellCorners (cellAt tc n)) 0
+        (λ i g. record-is tk b up k (corner tc n i) (corner-short tc keys levels n (inside n h) i g) l
+        ∙ ap (λ z. eqb k (recordAt tk z)) (sym (corner-key tc keys levels n (inside n h) i g))
+        ∙ ap (λ j. eqb k (recordAt tk (getD keys n 0 + octantKey j (2 ^ getD levels n 0)))) (let e : i ≡ 0 + i = omega arith in e))
+        ∙ sym (any-map (eqb k) (λ i. recordAt tk (getD keys n 0 + octantKey i (2 ^ getD levels n 0))) (count 0 8))
+
+    some-corner : (k : ℕ) → k < length tk / 10
+        → any (λ c. any (same (getD (placesOf tk) k (placeOf nowhere))) (cellCorners c)) (cellsOf tc) ≡ any (eqb k) (allNumbers tk keys levels (length tc / 4))
+    unfolding allNumbers
+    some-corner k l =
+        any-count (λ c. any (same (getD (placesOf tk) k (placeOf nowhere))) (cellCorners c)) box (λ n. any (eqb k) (numbersAt n)) (cellsOf tc) 0
+        (λ n h. cell-corner k l n h ∙ ap (λ m. any (eqb k) (numbersAt m)) (let e : n ≡ 0 + n = omega arith in e))
+        ∙ ap (λ m. any (λ n. any (eqb k) (numbersAt n)) (count 0 m)) (cell-count tc three)
+        ∙ sym (any-collect (eqb k) numbersAt (count 0 (length tc / 4)))
+
+    module _ (marks : List ℕ) (room : length tk / 10 ≤ length marks) (blank : (k : ℕ) → k < length tk / 10 → getD marks k 0 ≡ 0) where
+      abbrev newMarks : List ℕ
+      newMarks = marked (allNumbers tk keys levels (length tc / 4)) marks
+
+      mark-is : (k : ℕ) → k < length tk / 10 → any (eqb k) (allNumbers tk keys levels (length tc / 4)) ≡ eqb (getD newMarks k 0) 1
+      mark-is k h =
+          go (any (eqb k) (allNumbers tk keys levels (length tc / 4)))
+          ∙ ap (λ v. eqb v 1) (sym (mark-at k (allNumbers tk keys levels (length tc / 4)) marks (omega arith) ∙
+          ap (λ v. cond (any (eqb k) (allNumbers tk keys levels (length tc / 4))) 1 v) (blank k h)))
+        where
+          go : (r : Bool) → r ≡ eqb (cond r 1 0) 1
+          go true = refl
+          go false = refl
+
+      -- no record is anything else than a corner of a cell where every record is marked
+      all-corners : all (λ p. any (λ c. any (same p) (cellCorners c)) (cellsOf tc)) (placesOf tk) ≡ all (λ k. eqb (getD newMarks k 0) 1) (count 0 (length tk / 10))
+      all-corners =
+          all-count (λ p. any (λ c. any (same p) (cellCorners c)) (cellsOf tc)) (placeOf nowhere) (λ k. eqb (getD newMarks k 0) 1) (placesOf tk) 0
+          (λ k h. let l : k < length tk / 10 = rw (length-places tk) at h in
+          some-corner k l ∙ mark-is k l ∙ ap (λ j. eqb (getD newMarks j 0) 1) (let e : k ≡ 0 + k = omega arith in e))
+          ∙ ap (λ m. all (λ k. eqb (getD newMarks k 0) 1) (count 0 m)) (length-places tk)
+
+      -- check 6
+      pub corners-are : cornersRight (cellsOf tc) (placesOf tk)
+          ≡ all (λ k. ltb k (length tk / 10)) (allNumbers tk keys levels (length tc / 4)) && all (λ k. eqb (getD newMarks k 0) 1) (count 0 (length tk / 10))
+      unfolding cornersRight
+      corners-are = ap (λ r. r && all (λ p. any (λ c. any (same p) (cellCorners c)) (cellsOf tc)) (placesOf tk)) all-listed
+          ∙ ap (λ r. all (λ k. ltb k (length tk / 10)) (allNumbers tk keys levels (length tc / 4)) && r) all-corners
+
+-- Check 6 as the code decides it: by the first missing corner, or by the marks; n is the number of corner records.
+module _ (tc tk keys levels : List ℕ) (three : entriesRight 0 0 (entries tc) ≡ true) (laid : Laid tc keys levels) (b : Bytes tk)
+    (n : ℕ) (n-is : n ≡ length tk / 10) where
+  abbrev found : ℕ → Bool
+  found m = all (λ k. ltb k m) (allNumbers tk keys levels (length tc / 4))
+
+  pub one-missing : found n ≡ false → false ≡ cornersRight (cellsOf tc) (placesOf tk)
+  unfolding cornersRight
+  one-missing e =
+      sym (ap (λ r. r && all (λ p. any (λ c. any (same p) (cellCorners c)) (cellsOf tc)) (placesOf tk))
+      (all-listed tc tk keys levels (→true three) laid b ∙ ap found (sym n-is) ∙ e))
+
+  none-missing : rising (placesOf tk) ≡ true → (marks new : List ℕ) → n ≤ length marks → ((k : ℕ) → k < n → getD marks k 0 ≡ 0) → found n ≡ true
+      → new ≡ marked (allNumbers tk keys levels (length tc / 4)) marks
+      → all (λ k. eqb (getD new k 0) 1) (count 0 n) ≡ cornersRight (cellsOf tc) (placesOf tk)
+  none-missing up marks new room blank e w =
+      ap (λ m. all (λ k. eqb (getD m k 0) 1) (count 0 n)) w
+      ∙ ap (λ m. all (λ k. eqb (getD (marked (allNumbers tk keys levels (length tc / 4)) marks) k 0) 1) (count 0 m)) n-is
+      ∙ sym (corners-are tc tk keys levels (→true three) laid b up marks (omega arith) (λ k h. blank k (omega arith))
+      ∙ ap (λ r. r && all (λ k. eqb (getD (marked (allNumbers tk keys levels (length tc / 4)) marks) k 0) 1) (count 0 (length tk / 10)))
+      (ap found (sym n-is) ∙ e))
+
+  -- the same, where the marks are made blank
+  pub none-missing-made : rising (placesOf tk) ≡ true → (room : ℕ) (new : List ℕ) → n ≤ room → found n ≡ true
+      → new ≡ marked (allNumbers tk keys levels (length tc / 4)) (replicate room 0)
+      → all (λ k. eqb (getD new k 0) 1) (count 0 n) ≡ cornersRight (cellsOf tc) (placesOf tk)
+  none-missing-made up room new h e w =
+      none-missing up (replicate room 0) new (omega (arith, length-replicate {A = ℕ} room 0)) (λ k l. getD-replicate room k 0 0 (omega arith)) e w

@@ -1,0 +1,93 @@
+-- The checks in their order: the first that applies gives its number.
+use Prim.Native.Nat.{ℕ, _+_, _*_, _/_, _%_, _≤_, _<_}
+use mathlib.Core.Path.{_≡_, refl, sym, ap, _∙_}
+use mathlib.Core.Bool.{Bool, true, false, not, _||_, cond, true≢false}
+use mathlib.Core.List.{List, [], _∷_, _++_}
+use native.Mathlib.Omega.{arith}
+use lib.Dec.{eqb, ltb}
+use lib.ListN.{length}
+use lib.Ieee.{Float}
+use borrow.Author.Tests.{eq-eqb, ne-eqb, ltb-false}
+use Rattle.base.specs.Lists.{any}
+use Rattle.rules.specs.Survey.{entries, cellsOf, cornersOf}
+use Rattle.rules.specs.Outputs.{
+  badTable,
+  entriesRight,
+  rising,
+  cornersRight,
+  inRange,
+  firstOf,
+  surveyChecks,
+  surveyRefusal,
+  checks,
+}
+use Rattle.octree.proofs.Accepted.{first-append}
+use Rattle.records.specs.Keys.{placesOf}
+use Rattle.cells.specs.Laid.{tooDeep}
+use Rattle.checks.proofs.Tables.{beyond}
+
+-- what a table that passes check 1 or 2 has
+pub table-fits : (n limit : ℕ) (t : List ℕ) → badTable n limit t ≡ false → length t ≤ limit
+table-fits n limit t e = go (eqb (length t) 0) (not (eqb (length t % n) 0)) e
+  where
+    go : (a b : Bool) → a || (b || ltb limit (length t)) ≡ false → length t ≤ limit
+    go true b q = absurd (true≢false q)
+    go false true q = absurd (true≢false q)
+    go false false q = ltb-false limit (length t) q
+
+-- the checks before a check find nothing, and it applies
+module _ (tc tk : List ℕ) where
+  pub refused-one : badTable 4 8196 tc ≡ true → 1 ≡ surveyRefusal tc tk
+  unfolding surveyRefusal surveyChecks
+  refused-one a = rw a
+
+  module _ (a : badTable 4 8196 tc ≡ false) where
+    pub refused-two : badTable 10 48720 tk ≡ true → 2 ≡ surveyRefusal tc tk
+    unfolding surveyRefusal surveyChecks
+    refused-two b = rw (a, b)
+
+    module _ (b : badTable 10 48720 tk ≡ false) where
+      pub refused-three : not (entriesRight 0 0 (entries tc)) ≡ true → 3 ≡ surveyRefusal tc tk
+      unfolding surveyRefusal surveyChecks
+      refused-three c = rw (a, b, c)
+
+      module _ (c : not (entriesRight 0 0 (entries tc)) ≡ false) where
+        pub refused-four : any tooDeep (cellsOf tc) ≡ true → 4 ≡ surveyRefusal tc tk
+        unfolding surveyRefusal surveyChecks
+        refused-four d = rw (a, b, c, d)
+
+        module _ (d : any tooDeep (cellsOf tc) ≡ false) where
+          pub refused-five : not (rising (placesOf tk)) ≡ true → 5 ≡ surveyRefusal tc tk
+          unfolding surveyRefusal surveyChecks
+          refused-five e = rw (a, b, c, d, e)
+
+          module _ (e : not (rising (placesOf tk)) ≡ false) where
+            pub refused-six : not (cornersRight (cellsOf tc) (placesOf tk)) ≡ true → 6 ≡ surveyRefusal tc tk
+            unfolding surveyRefusal surveyChecks
+            refused-six f = rw (a, b, c, d, e, f)
+
+            module _ (f : not (cornersRight (cellsOf tc) (placesOf tk)) ≡ false) where
+              pub refused-seven : any beyond (cornersOf tk) ≡ true → 7 ≡ surveyRefusal tc tk
+              unfolding surveyRefusal surveyChecks
+              refused-seven g = rw (a, b, c, d, e, f, g)
+
+              pub none-refused : any beyond (cornersOf tk) ≡ false → 0 ≡ surveyRefusal tc tk
+              unfolding surveyRefusal surveyChecks
+              none-refused g = rw (a, b, c, d, e, f, g)
+
+-- the clearance is checked after the survey
+module _ (tc tk : List ℕ) (clearance : Float) (n : ℕ) (n-is : n ≡ surveyRefusal tc tk) where
+  checks-are : firstOf (checks tc tk clearance) ≡ cond (eqb n 0) (cond (not (inRange clearance)) 8 0) n
+  unfolding checks surveyRefusal
+  checks-are =
+      first-append (surveyChecks tc tk) ((8, not (inRange clearance)) ∷ []) (unfold surveyChecks in tt)
+      ∙ ap (λ m. cond (eqb m 0) (cond (not (inRange clearance)) 8 0) m) (sym n-is)
+
+  pub survey-refused : (n ≡ 0 → ⊥) → n ≡ firstOf (checks tc tk clearance)
+  survey-refused z = sym (checks-are ∙ rw (ne-eqb n 0 z))
+
+  pub clearance-refused : n ≡ 0 → not (inRange clearance) ≡ true → 8 ≡ firstOf (checks tc tk clearance)
+  clearance-refused z e = sym (checks-are ∙ rw (eq-eqb n 0 z, e))
+
+  pub nothing-refused : n ≡ 0 → not (inRange clearance) ≡ false → 0 ≡ firstOf (checks tc tk clearance)
+  nothing-refused z e = sym (checks-are ∙ rw (eq-eqb n 0 z, e))

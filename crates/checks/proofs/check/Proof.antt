@@ -1,0 +1,163 @@
+use native.Mathlib.Omega.{arith}
+use mathlib.Core.Path.{_∙_, sym, ap, refl}
+use mathlib.Core.Bool.{not}
+use borrow.Author.Tests.{not-false}
+use Rattle.checks.proofs.Order.{
+  table-fits,
+  refused-one,
+  refused-two,
+  refused-three,
+  refused-four,
+  refused-five,
+  refused-six,
+  refused-seven,
+  none-refused,
+}
+use borrow.Author.Needs.{needs}
+use Rattle.checks.proofs.check.Statement.{statement}
+use Rattle.checks.proofs.check.Tie as tie
+
+bad-table-requires : tie.Need-bad-table-requires
+bad-table-requires c κs = search needs
+
+returns : tie.Need-returns
+returns c =
+    let a = c .before .before .before .before .args in
+    refused-one (a .cells .now) (a .corners .now)
+    (sym (c .before .bad-table .ensures) ∙ c .if1 .taken)
+
+bad-table-requires-2 : tie.Need-bad-table-requires-2
+bad-table-requires-2 c κs = search needs
+
+returns-2 : tie.Need-returns-2
+returns-2 c =
+    let a = c .before .before .before .before .before .before .args in
+    refused-two (a .cells .now) (a .corners .now)
+    (sym (c .before .before .before .bad-table .ensures) ∙ c .before .before .if1 .left)
+    (sym (c .before .bad-table2 .ensures) ∙ c .if2 .taken)
+
+entries-right-requires : tie.Need-entries-right-requires
+entries-right-requires c κs =
+    let a = c .before .before .before .before .before .before .args in
+    (refl, table-fits 4 8196 (a .cells .now) (sym (c .before .before .before .bad-table .ensures) ∙ c .before .before .if1 .left))
+
+returns-3 : tie.Need-returns-3
+returns-3 c =
+    let a = c .before .before .before .before .before .before .before .before .args in
+    refused-three (a .cells .now) (a .corners .now)
+    (sym (c .before .before .before .before .before .bad-table .ensures) ∙ c .before .before .before .before .if1 .left)
+    (sym (c .before .before .before .bad-table2 .ensures) ∙ c .before .before .if2 .left)
+    (ap not (sym (c .before .entries-right .ensures)) ∙ c .if3 .taken)
+
+slice-aggregate-lay-out : tie.Need-slice-aggregate-lay-out
+slice-aggregate-lay-out c = search needs
+
+slice-aggregate-lay-out-2 : tie.Need-slice-aggregate-lay-out-2
+slice-aggregate-lay-out-2 c = search needs
+
+lay-out-requires : tie.Need-lay-out-requires
+lay-out-requires c κs =
+    let a = c .before .before .before .before .before .before .before .before .before .before .args in
+    let most = table-fits 4 8196 (a .cells .now) (sym (c .before .before .before .before .before .before .before .bad-table .ensures) ∙ c .before .before .before .before .before .before .if1 .left) in
+    let right = sym (c .before .before .before .entries-right .ensures) ∙ not-false (c .before .before .before .entries-right .result) (c .before .before .if3 .left) in
+    (refl, (right, (omega arith, omega arith)))
+
+returns-4 : tie.Need-returns-4
+returns-4 c =
+    let a = c .before .before .before .before .before .before .before .before .before .before .before .before .before .before .args in
+    refused-four (a .cells .now) (a .corners .now)
+    (sym (c .before .before .before .before .before .before .before .before .before .before .before .bad-table .ensures) ∙ c .before .before .before .before .before .before .before .before .before .before .if1 .left)
+    (sym (c .before .before .before .before .before .before .before .before .before .bad-table2 .ensures) ∙ c .before .before .before .before .before .before .before .before .if2 .left)
+    (ap not (sym (c .before .before .before .before .before .before .before .entries-right .ensures)) ∙ c .before .before .before .before .before .before .if3 .left)
+    (sym (c .before .before .before .lay-out .ensures .0) ∙ c .if4 .taken)
+
+corners-rise-requires : tie.Need-corners-rise-requires
+corners-rise-requires c κs = search needs
+
+returns-5 : tie.Need-returns-5
+returns-5 c =
+    let a = c .before .before .before .before .before .before .before .before .before .before .before .before .before .before .before .before .args in
+    refused-five (a .cells .now) (a .corners .now)
+    (sym (c .before .before .before .before .before .before .before .before .before .before .before .before .before .bad-table .ensures) ∙ c .before .before .before .before .before .before .before .before .before .before .before .before .if1 .left)
+    (sym (c .before .before .before .before .before .before .before .before .before .before .before .bad-table2 .ensures) ∙ c .before .before .before .before .before .before .before .before .before .before .if2 .left)
+    (ap not (sym (c .before .before .before .before .before .before .before .before .before .entries-right .ensures)) ∙ c .before .before .before .before .before .before .before .before .if3 .left)
+    (sym (c .before .before .before .before .before .lay-out .ensures .0) ∙ c .before .before .if4 .left)
+    (ap not (sym (c .before .corners-rise .ensures)) ∙ c .if5 .taken)
+
+slice-aggregate-corners-right : tie.Need-slice-aggregate-corners-right
+slice-aggregate-corners-right c = search needs
+
+slice-aggregate-corners-right-2 : tie.Need-slice-aggregate-corners-right-2
+slice-aggregate-corners-right-2 c = search needs
+
+corners-right-requires : tie.Need-corners-right-requires
+corners-right-requires c κs =
+    let a = c .before .before .before .before .before .before .before .before .before .before .before .before .before .before .before .before .before .before .args in
+    let most = table-fits 4 8196 (a .cells .now) (sym (c .before .before .before .before .before .before .before .before .before .before .before .before .before .before .before .bad-table .ensures) ∙ c .before .before .before .before .before .before .before .before .before .before .before .before .before .before .if1 .left) in
+    let few = table-fits 10 48720 (a .corners .now) (sym (c .before .before .before .before .before .before .before .before .before .before .before .before .before .bad-table2 .ensures) ∙ c .before .before .before .before .before .before .before .before .before .before .before .before .if2 .left) in
+    let right = sym (c .before .before .before .before .before .before .before .before .before .before .before .entries-right .ensures) ∙ not-false (c .before .before .before .before .before .before .before .before .before .before .before .entries-right .result) (c .before .before .before .before .before .before .before .before .before .before .if3 .left) in
+    let up = sym (c .before .before .before .corners-rise .ensures) ∙ not-false (c .before .before .before .corners-rise .result) (c .before .before .if5 .left) in
+    let laid = c .before .before .before .before .before .before .before .lay-out .ensures .1 (c .before .before .before .before .if4 .left) in
+    (right, (laid, ((search needs, search needs), ((refl, omega arith), up))))
+
+returns-6 : tie.Need-returns-6
+returns-6 c =
+    let a = c .before .before .before .before .before .before .before .before .before .before .before .before .before .before .before .before .before .before .before .before .args in
+    refused-six (a .cells .now) (a .corners .now)
+    (sym (c .before .before .before .before .before .before .before .before .before .before .before .before .before .before .before .before .before .bad-table .ensures) ∙ c .before .before .before .before .before .before .before .before .before .before .before .before .before .before .before .before .if1 .left)
+    (sym (c .before .before .before .before .before .before .before .before .before .before .before .before .before .before .before .bad-table2 .ensures) ∙ c .before .before .before .before .before .before .before .before .before .before .before .before .before .before .if2 .left)
+    (ap not (sym (c .before .before .before .before .before .before .before .before .before .before .before .before .before .entries-right .ensures)) ∙ c .before .before .before .before .before .before .before .before .before .before .before .before .if3 .left)
+    (sym (c .before .before .before .before .before .before .before .before .before .lay-out .ensures .0) ∙ c .before .before .before .before .before .before .if4 .left)
+    (ap not (sym (c .before .before .before .before .before .corners-rise .ensures)) ∙ c .before .before .before .before .if5 .left)
+    (ap not (sym (c .before .corners-right .ensures)) ∙ c .if6 .taken)
+
+bad-sounding-requires : tie.Need-bad-sounding-requires
+bad-sounding-requires c κs = search needs
+
+returns-7 : tie.Need-returns-7
+returns-7 c =
+    let a = c .before .before .before .before .before .before .before .before .before .before .before .before .before .before .before .before .before .before .before .before .before .before .args in
+    refused-seven (a .cells .now) (a .corners .now)
+    (sym (c .before .before .before .before .before .before .before .before .before .before .before .before .before .before .before .before .before .before .before .bad-table .ensures) ∙ c .before .before .before .before .before .before .before .before .before .before .before .before .before .before .before .before .before .before .if1 .left)
+    (sym (c .before .before .before .before .before .before .before .before .before .before .before .before .before .before .before .before .before .bad-table2 .ensures) ∙ c .before .before .before .before .before .before .before .before .before .before .before .before .before .before .before .before .if2 .left)
+    (ap not (sym (c .before .before .before .before .before .before .before .before .before .before .before .before .before .before .before .entries-right .ensures)) ∙ c .before .before .before .before .before .before .before .before .before .before .before .before .before .before .if3 .left)
+    (sym (c .before .before .before .before .before .before .before .before .before .before .before .lay-out .ensures .0) ∙ c .before .before .before .before .before .before .before .before .if4 .left)
+    (ap not (sym (c .before .before .before .before .before .before .before .corners-rise .ensures)) ∙ c .before .before .before .before .before .before .if5 .left)
+    (ap not (sym (c .before .before .before .corners-right .ensures)) ∙ c .before .before .if6 .left)
+    (sym (c .before .bad-sounding .ensures) ∙ c .if7 .taken)
+
+returns-8 : tie.Need-returns-8
+returns-8 c =
+    let a = c .before .before .before .before .before .before .before .before .before .before .before .before .before .before .before .before .before .before .before .before .before .before .args in
+    none-refused (a .cells .now) (a .corners .now)
+    (sym (c .before .before .before .before .before .before .before .before .before .before .before .before .before .before .before .before .before .before .before .bad-table .ensures) ∙ c .before .before .before .before .before .before .before .before .before .before .before .before .before .before .before .before .before .before .if1 .left)
+    (sym (c .before .before .before .before .before .before .before .before .before .before .before .before .before .before .before .before .before .bad-table2 .ensures) ∙ c .before .before .before .before .before .before .before .before .before .before .before .before .before .before .before .before .if2 .left)
+    (ap not (sym (c .before .before .before .before .before .before .before .before .before .before .before .before .before .before .before .entries-right .ensures)) ∙ c .before .before .before .before .before .before .before .before .before .before .before .before .before .before .if3 .left)
+    (sym (c .before .before .before .before .before .before .before .before .before .before .before .lay-out .ensures .0) ∙ c .before .before .before .before .before .before .before .before .if4 .left)
+    (ap not (sym (c .before .before .before .before .before .before .before .corners-rise .ensures)) ∙ c .before .before .before .before .before .before .if5 .left)
+    (ap not (sym (c .before .before .before .corners-right .ensures)) ∙ c .before .before .if6 .left)
+    (sym (c .before .bad-sounding .ensures) ∙ c .if7 .left)
+
+pub check-spec : {M : Type 1} → statement M
+check-spec =
+    tie.close
+    (tie.spec
+    bad-table-requires
+    returns
+    bad-table-requires-2
+    returns-2
+    entries-right-requires
+    returns-3
+    slice-aggregate-lay-out
+    slice-aggregate-lay-out-2
+    lay-out-requires
+    returns-4
+    corners-rise-requires
+    returns-5
+    slice-aggregate-corners-right
+    slice-aggregate-corners-right-2
+    corners-right-requires
+    returns-6
+    bad-sounding-requires
+    returns-7
+    returns-8)

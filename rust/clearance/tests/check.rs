@@ -1,0 +1,49 @@
+//! The compiled check against the independent Rust drawing's, on lawful and damaged tables. Each failure names the seed that makes the survey again.
+
+use surveys::{damage, document, generate, Survey};
+
+fn assert_same(survey: &Survey, what: &str) -> u32 {
+    let Survey { cells, corners, .. } = survey;
+    let number = clearance::check(cells, corners);
+    assert_eq!(number, drawing::check(cells, corners), "{what}");
+    number
+}
+
+#[test]
+fn the_surveys_of_the_document() {
+    for example in document::checked() {
+        assert_same(&example.survey, example.name);
+    }
+}
+
+#[test]
+fn lawful_surveys_pass() {
+    for seed in 0..5_000 {
+        assert_eq!(assert_same(&generate::survey(seed), &format!("survey, seed {seed}")), 0, "seed {seed}");
+        assert_eq!(
+            assert_same(&generate::interior(seed), &format!("interior, seed {seed}")),
+            0,
+            "seed {seed}"
+        );
+    }
+}
+
+#[test]
+fn damaged_tables_are_refused_alike() {
+    for refusal in 1..=7 {
+        for seed in 0..1_500 {
+            let survey = damage::damaged_for(refusal, seed).survey;
+            assert_eq!(assert_same(&survey, &format!("refusal {refusal}, seed {seed}")), refusal);
+        }
+    }
+    for seed in 0..10_000 {
+        assert_same(&damage::damaged(seed).survey, &format!("several, seed {seed}"));
+    }
+}
+
+#[test]
+fn corrupted_tables_are_judged_alike() {
+    for seed in 0..40_000 {
+        assert_same(&damage::corrupted(seed), &format!("corrupted, seed {seed}"));
+    }
+}
