@@ -137,7 +137,8 @@ module _ (t : List ℕ) (three : entriesRight 0 0 (entries t) ≡ true) where
           where
             inside : (a : Axis) → cellAt t (entry t n + i) .level ≡ l → cellAt t (entry t n + i) .low ≡ getD (octants (2 ^ l) (c .low)) i origin
                 → 2 ^ c .level ≡ 2 ^ l + 2 ^ l → along a (c .low) + 2 ^ c .level ≤ 1024
-                → (along a (getD (octants (2 ^ l) (c .low)) i origin) ≡ along a (c .low)) ⊎ (along a (getD (octants (2 ^ l) (c .low)) i origin) ≡ along a (c .low) + 2 ^ l)
+                → (along a (getD (octants (2 ^ l) (c .low)) i origin) ≡ along a (c .low)) ⊎ (along a (getD (octants (2 ^ l) (c .low)) i origin)
+                ≡ along a (c .low) + 2 ^ l)
                 → along a (cellAt t (entry t n + i) .low) + 2 ^ cellAt t (entry t n + i) .level ≤ 1024
             inside a le ll se g (inl x) = rw (le, ll, x) (omega arith)
             inside a le ll se g (inr x) = rw (le, ll, x) (omega arith)

@@ -14,7 +14,8 @@ use Rattle.cells.specs.Laid.{writtenAt}
 module _ (f : ℕ → ℕ) where
   map-more : (i n : ℕ) → map f (count i (suc n)) ≡ map f (count i n) ++ (f (i + n) ∷ [])
   map-more i zero = ap (λ k. f k ∷ []) (sym (add-zero i))
-  map-more i (suc n) = ap (λ l. f i ∷ l) (map-more (suc i) n ∙ ap (λ k. map f (count (suc i) n) ++ (f k ∷ [])) (let e : suc i + n ≡ i + suc n = omega arith in e))
+  map-more i (suc n) = ap (λ l. f i ∷ l) (map-more (suc i) n ∙ ap (λ k. map f (count (suc i) n) ++ (f k ∷ [])) (let e : suc i + n
+      ≡ i + suc n = omega arith in e))
 
   -- nothing written yet
   pub written-none : (at : ℕ) (l : List ℕ) → l ≡ writtenAt f at 0 l
@@ -25,10 +26,19 @@ module _ (f : ℕ → ℕ) where
   written-more : (at i : ℕ) (l : List ℕ) → at + i < length l → set (writtenAt f at i l) (at + i) (f i) ≡ writtenAt f at (i + 1) l
   unfolding writtenAt
   written-more at i l h =
-      let front : length (take at l ++ map f (count 0 i)) ≡ at + i = length-append (take at l) (map f (count 0 i)) ∙ omega (arith, length-take-le at l (omega arith), length-table f i) in
-      let grown : map f (count 0 (i + 1)) ≡ map f (count 0 i) ++ (f i ∷ []) = rw add-one (map-more 0 i ∙ ap (λ k. map f (count 0 i) ++ (f k ∷ [])) (let e : 0 + i ≡ i = omega arith in e)) in
+      let front : length (take at l ++ map f (count 0 i)) ≡ at + i = length-append (take at l) (map f (count 0 i))
+      ∙ omega (arith, length-take-le at l (omega arith), length-table f i) in
+      let grown : map f (count 0 (i + 1)) ≡ map f (count 0 i) ++ (f i ∷ []) = rw add-one (map-more 0 i
+      ∙ ap (λ k. map f (count 0 i) ++ (f k ∷ [])) (let e : 0 + i ≡ i = omega arith in e)) in
       let next : suc (at + i) ≡ at + (i + 1) = omega arith in
-      rw (drop-cons l (at + i) 0 h, grown, ← append-assoc (take at l) (map f (count 0 i)) _, set-at (take at l ++ map f (count 0 i)) _ _ (f i) (at + i) front, next)
+      rw (
+        drop-cons l (at + i) 0 h,
+        grown,
+        ← append-assoc (take at l) (map f (count 0 i)) _,
+        set-at (take at l ++ map f (count 0 i)) _ _ (f i)
+            (at + i) front,
+        next,
+      )
       (append-assoc (take at l) (map f (count 0 i)) _ ∙ ap (λ k. take at l ++ k) (sym (append-assoc (map f (count 0 i)) (f i ∷ []) _)))
 
   -- one turn of a loop that writes

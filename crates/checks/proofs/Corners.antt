@@ -24,7 +24,7 @@ use Rattle.records.proofs.Found.{record-at-place, listed-found, found-listed}
 use Rattle.cells.specs.Laid.{octantKey, cellAt, Entered, Laid}
 use Rattle.cells.proofs.Octants.{octant-key-is}
 use Rattle.checks.specs.Marks.{cornerNumbers, allNumbers, marked}
-use Rattle.checks.proofs.Counted.{all-count, any-count, all-collect, any-collect, all-map, any-map}
+use Rattle.base.proofs.Below.{all-count, any-count, all-collect, any-collect, all-map, any-map}
 use Rattle.checks.proofs.Marking.{mark-at}
 
 module _ (t : List ℕ) (b : Bytes t) where
@@ -56,7 +56,8 @@ module _ (t : List ℕ) (b : Bytes t) where
             let l = found-listed t b p s (omega arith) in
             let r = position-of (same p) (placeOf nowhere) (placesOf t) 0 l in
             let j : r .0 ≡ k = omega (arith, r .1, record-at-place t b p s) in
-            let z : p ≡ here = same→ p (getD (placesOf t) (r .0) (placeOf nowhere)) (r .3) ∙ ap (λ m. getD (placesOf t) m (placeOf nowhere)) j ∙ get-place t k h in
+            let z : p ≡ here = same→ p (getD (placesOf t) (r .0) (placeOf nowhere)) (r .3) ∙ ap (λ m. getD (placesOf t) m (placeOf nowhere)) j
+            ∙ get-place t k h in
             subst (λ w. T (same w p)) z (same-refl p)
 
 -- corner i of the cell of record n
@@ -150,7 +151,8 @@ module _ (tc tk keys levels : List ℕ) (three : T (entriesRight 0 0 (entries tc
           go false = refl
 
       -- no record is anything else than a corner of a cell where every record is marked
-      all-corners : all (λ p. any (λ c. any (same p) (cellCorners c)) (cellsOf tc)) (placesOf tk) ≡ all (λ k. eqb (getD newMarks k 0) 1) (count 0 (length tk / 10))
+      all-corners : all (λ p. any (λ c. any (same p) (cellCorners c)) (cellsOf tc)) (placesOf tk)
+          ≡ all (λ k. eqb (getD newMarks k 0) 1) (count 0 (length tk / 10))
       all-corners =
           all-count (λ p. any (λ c. any (same p) (cellCorners c)) (cellsOf tc)) (placeOf nowhere) (λ k. eqb (getD newMarks k 0) 1) (placesOf tk) 0
           (λ k h. let l : k < length tk / 10 = rw (length-places tk) at h in

@@ -1,5 +1,5 @@
 pub mod Tables
-pub mod Counted
 pub mod Marking
 pub mod Corners
 pub mod Order
+pub mod Passed

@@ -14,7 +14,7 @@ use Rattle.base.proofs.Lists.{length-count, get-count}
 use Rattle.base.proofs.Below.{rest, all-fails, all-passes, get-table, length-table}
 use Rattle.records.specs.Keys.{recordAt}
 use Rattle.cells.specs.Laid.{octantKey}
-use Rattle.checks.proofs.Counted.{all-append}
+use Rattle.base.proofs.Below.{all-append}
 use Rattle.checks.specs.Marks.{cornerNumbers, allNumbers, marked}
 
 pub marked-none : (marks : List ℕ) → marked [] marks ≡ marks
@@ -60,7 +60,8 @@ module _ (t : List ℕ) (key level i : ℕ) (h : i < 8) where
     pub corner-there : at < n → all (λ k. ltb k n) (drop (i + 1) (cornerNumbers t key level)) ≡ all (λ k. ltb k n) (drop i (cornerNumbers t key level))
     corner-there l = all-passes (λ k. ltb k n) (cornerNumbers t key level) i 0 (omega (arith, eight)) (rw (number-is, ← found) (lt-ltb at n l))
 
-    pub corner-marked : (marks : List ℕ) → marked (drop (i + 1) (cornerNumbers t key level)) (set marks at 1) ≡ marked (drop i (cornerNumbers t key level)) marks
+    pub corner-marked : (marks : List ℕ) → marked (drop (i + 1) (cornerNumbers t key level)) (set marks at 1)
+        ≡ marked (drop i (cornerNumbers t key level)) marks
     unfolding marked
     corner-marked marks = rw (rest (cornerNumbers t key level) i 0 (omega (arith, eight)), number-is, ← found)
 

@@ -72,7 +72,14 @@ fn mark_corners(corners: &[u8], count: usize, key: u64, level: u8, marks: &mut [
 }
 
 // Looks up and marks the corners of all cells, by their tables. False if one is missing.
-fn mark_cells(keys: &[u64], levels: &[u8], cells: usize, corners: &[u8], count: usize, marks: &mut [u8]) -> bool
+fn mark_cells(
+    keys: &[u64],
+    levels: &[u8],
+    cells: usize,
+    corners: &[u8],
+    count: usize,
+    marks: &mut [u8],
+) -> bool
     requires { ⌜ count ≡ length (now corners) / 10 ⌝ }
     requires { ⌜ rising (placesOf (now corners)) ≡ true ⌝ }
     requires { ⌜ count ≤ length (now marks) ⌝ }

@@ -1,6 +1,58 @@
 // What is exported to C and Rust: the calls of document 01, thin over the proved ones. A slice passes as a pointer and a length.
+use rules::{Answer, Edge};
 ghost use mathlib.Core.Path.{_≡_};
-ghost use Rattle.rules.specs.Outputs.{surveyRefusal};
+ghost use Rattle.rules.specs.Outputs.{surveyRefusal, enquiry};
+ghost use Rattle.clearance.specs.Reply.{replyOf, edgeReply};
+
+// The answer of an enquiry as plain numbers: the number returned, whether the edge is crossing, the point's number and its place.
+#[repr(C)]
+pub struct Reply {
+    pub number: u32,
+    pub crossing: u32,
+    pub point: u32,
+    pub x: f32,
+    pub y: f32,
+    pub z: f32,
+}
+
+fn edge_reply(e: Edge) -> Reply
+    ensures { λ r. ⌜ r ≡ edgeReply e ⌝ }
+{
+    match e {
+        Edge::Even => Reply {
+            number: 0,
+            crossing: 0,
+            point: 0,
+            x: 0.0,
+            y: 0.0,
+            z: 0.0,
+        },
+        Edge::Crossing(n, x, y, z) => Reply {
+            number: 0,
+            crossing: 1,
+            point: n,
+            x,
+            y,
+            z,
+        },
+    }
+}
+
+fn reply_of(a: Answer) -> Reply
+    ensures { λ r. ⌜ r ≡ replyOf a ⌝ }
+{
+    match a {
+        Answer::Refused(n) => Reply {
+            number: n,
+            crossing: 0,
+            point: 0,
+            x: 0.0,
+            y: 0.0,
+            z: 0.0,
+        },
+        Answer::Found(e) => edge_reply(e),
+    }
+}
 
 // Checks a survey by itself: 0, or the number of the first refusal of 1 to 7 that applies.
 #[no_mangle]
@@ -8,4 +60,21 @@ pub extern "C" fn clearance_check(cells: &[u8], corners: &[u8]) -> u32
     ensures { λ r. ⌜ r ≡ surveyRefusal (now (cells .entry)) (now (corners .entry)) ⌝ }
 {
     checks::check(cells, corners)
+}
+
+// The edge enquiry, by axis, lower end and length.
+#[no_mangle]
+pub extern "C" fn clearance_enquire(
+    cells: &[u8],
+    corners: &[u8],
+    clearance: f32,
+    axis: u32,
+    x: u32,
+    y: u32,
+    z: u32,
+    length: u32,
+) -> Reply
+    ensures { λ r. ⌜ r ≡ replyOf (enquiry (now (cells .entry)) (now (corners .entry)) clearance axis (record { x = x; y = y; z = z }) length) ⌝ }
+{
+    reply_of(edges::enquire(cells, corners, clearance, axis, x, y, z, length))
 }

@@ -52,8 +52,10 @@ pub corner-is : (t : List ℕ) (k : ℕ) {x y z : ℕ} {v : Float} → x ≡ lit
     → _≡_ {A = Corner} (record { x = x; y = y; z = z; sounding = v }) (cornerRecord t k)
 unfolding cornerRecord
 corner-is t k ex ey ez ev =
-    let from : (i n : ℕ) → i + n ≤ 10 → little (bytes t (10 * k + i) n) ≡ little (bytes (bytes t (10 * k) 10) i n) = λ i n h. ap little (sym (part t (10 * k) 10 i n h)) in
-    let low : little (bytes t (10 * k) 2) ≡ little (bytes (bytes t (10 * k) 10) 0 2) = ap (λ j. little (bytes t j 2)) (sym (add-zero (10 * k))) ∙ from 0 2 (lit≤ tt) in
+    let from : (i n : ℕ) → i + n ≤ 10 → little (bytes t (10 * k + i) n)
+    ≡ little (bytes (bytes t (10 * k) 10) i n) = λ i n h. ap little (sym (part t (10 * k) 10 i n h)) in
+    let low : little (bytes t (10 * k) 2) ≡ little (bytes (bytes t (10 * k) 10) 0 2) = ap (λ j. little (bytes t j 2)) (sym (add-zero (10 * k)))
+    ∙ from 0 2 (lit≤ tt) in
     λ i. record {
       x = (ex ∙ low) i;
       y = (ey ∙ from 2 2 (lit≤ tt)) i;

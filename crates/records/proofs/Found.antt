@@ -11,58 +11,11 @@ use lib.IntN.{pos}
 use lib.Ieee.{fin}
 use Rattle.base.specs.Lists.{any, first, position}
 use Rattle.base.specs.Grid.{Place, same}
-use Rattle.base.proofs.Below.{position-le}
+use Rattle.base.proofs.Below.{position-same, first-position, any-position, position-any}
 use Rattle.rules.specs.Survey.{cornerRecord, cornersOf, placeOf, cornerAt}
 use Rattle.rules.specs.declared.Corner.{Corner}
 use Rattle.records.specs.Keys.{keyOf, placesOf, recordAt}
 use Rattle.records.proofs.Keys.{Bytes, Short, nowhere, same-key, record-short, get-corner, get-place, length-places, length-corners}
-
-module _ {A : Type 0} where
-  -- two tests that agree on a list find the same position
-  pub position-same : (f g : A → Bool) (d : A) (l : List A) (n : ℕ) → ((j : ℕ) → j < length l → f (getD l j d) ≡ g (getD l j d))
-      → position f n l ≡ position g n l
-  position-same f g d [] n h = refl
-  position-same f g d (x ∷ l) n h =
-      rw (h 0 (omega arith), position-same f g d l (suc n) (λ j k. h (suc j) (omega arith)))
-
-  -- the first element that passes stands at its position
-  pub first-position : (f : A → Bool) (d : A) (l : List A) → first f d l ≡ getD l (position f 0 l) d
-  first-position f d l = from l
-    where
-      -- the position, counted from n, is that counted from 0, and n
-      shift : (l : List A) (n : ℕ) → position f n l ≡ n + position f 0 l
-      shift [] n = omega arith
-      shift (x ∷ l) n = go (f x) (shift l (suc n)) (shift l 1)
-        where
-          go : (b : Bool) → position f (suc n) l ≡ suc n + position f 0 l → position f 1 l ≡ 1 + position f 0 l
-              → cond b n (position f (suc n) l) ≡ n + cond b 0 (position f 1 l)
-          go true p q = omega arith
-          go false p q = omega arith
-
-      from : (l : List A) → first f d l ≡ getD l (position f 0 l) d
-      from [] = refl
-      from (x ∷ l) = go (f x) (from l)
-        where
-          go : (b : Bool) → first f d l ≡ getD l (position f 0 l) d → cond b x (first f d l) ≡ getD (x ∷ l) (cond b 0 (position f 1 l)) d
-          go true h = refl
-          go false h = rw (shift l 1) (h ∙ ap (λ k. getD (x ∷ l) k d) (let e : suc (position f 0 l) ≡ 1 + position f 0 l = omega arith in e))
-
-  -- an element passes where its position is inside, and nowhere else
-  pub any-position : (f : A → Bool) (l : List A) (n : ℕ) → position f n l < n + length l → T (any f l)
-  any-position f [] n h = absurd (omega arith)
-  any-position f (x ∷ l) n h = go (f x) h (λ k. any-position f l (suc n) k)
-    where
-      go : (b : Bool) → cond b n (position f (suc n) l) < n + suc (length l) → (position f (suc n) l < suc n + length l → T (any f l)) → T (b || any f l)
-      go true k r = tt
-      go false k r = r (omega arith)
-
-  pub position-any : (f : A → Bool) (l : List A) (n : ℕ) → T (any f l) → position f n l < n + length l
-  position-any f [] n t = absurd t
-  position-any f (x ∷ l) n t = go (f x) t (λ s. position-any f l (suc n) s)
-    where
-      go : (b : Bool) → T (b || any f l) → (T (any f l) → position f (suc n) l < suc n + length l) → cond b n (position f (suc n) l) < n + suc (length l)
-      go true k r = omega arith
-      go false k r = omega (arith, r k)
 
 position-map : (f : Place → Bool) (l : List Corner) (n : ℕ) → position f n (map placeOf l) ≡ position (λ c. f (placeOf c)) n l
 position-map f [] n = refl

@@ -43,7 +43,14 @@ module _ (p q : Place) (hp : Short p) (hq : Short q) where
           rw (le-ltb (p .z) (q .z) (omega arith), eq-eqb (p .z) (q .z) ez, le-ltb (p .y) (q .y) (omega arith), eq-eqb (p .y) (q .y) ey, lt-ltb (p .x) (q .x) l)
           (sym (lt-ltb key-p key-q (omega arith)))
       by-x ez ey (no l) =
-          rw (le-ltb (p .z) (q .z) (omega arith), eq-eqb (p .z) (q .z) ez, le-ltb (p .y) (q .y) (omega arith), eq-eqb (p .y) (q .y) ey, le-ltb (p .x) (q .x) (omega arith))
+          rw (
+            le-ltb (p .z) (q .z) (omega arith),
+            eq-eqb (p .z) (q .z) ez,
+            le-ltb (p .y) (q .y) (omega arith),
+            eq-eqb (p .y) (q .y) ey,
+            le-ltb
+                (p .x) (q .x) (omega arith),
+          )
           (sym (le-ltb key-p key-q (omega arith)))
 
       by-y : p .z ≡ q .z → Dec (p .y < q .y) → Dec (q .y < p .y) → before p q ≡ ltb key-p key-q

@@ -20,7 +20,8 @@ unfolding div ofBits
 zero-by-zero = refl
 
 pub nan-made : (b : ℕ) → 0x7f80_0000 < b % 0x8000_0000 → div binary32 (ofBits binary32 0) (ofBits binary32 0) ≡ ofBits binary32 b
-nan-made b h = zero-by-zero ∙ sym (only-nan (ofBits binary32 b) (sym (nanBits-is binary32 b) ∙ nanBits-above binary32 b ∙ lt-ltb 0x7f80_0000 (b % 0x8000_0000) h))
+nan-made b h = zero-by-zero ∙ sym (only-nan (ofBits binary32 b) (sym (nanBits-is binary32 b) ∙ nanBits-above binary32 b
+    ∙ lt-ltb 0x7f80_0000 (b % 0x8000_0000) h))
 
 pub no-nan-bits : (b : ℕ) → b % 0x8000_0000 ≤ 0x7f80_0000 → T (not (nanBits binary32 b))
 no-nan-bits b h = rw (nanBits-above binary32 b ∙ le-ltb 0x7f80_0000 (b % 0x8000_0000) h) tt

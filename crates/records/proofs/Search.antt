@@ -65,14 +65,16 @@ module _ (t : List ℕ) (b : Bytes t) where
   module _ (up : rising (placesOf t) ≡ true) where
     left : (i : ℕ) → i < length t / 10 → rising (drop i (placesOf t)) ≡ true
     left zero h = up
-    left (suc i) h = rw add-one at (go (ltb (keyAt t i) (keyAt t (i + 1))) (rising (drop (i + 1) (placesOf t))) (sym (left i (omega arith)) ∙ turn i (omega arith)))
+    left (suc i) h = rw add-one at (go (ltb (keyAt t i) (keyAt t (i + 1))) (rising (drop (i + 1) (placesOf t))) (sym (left i (omega arith))
+        ∙ turn i (omega arith)))
       where
         go : (a c : Bool) → true ≡ a && c → c ≡ true
         go true c e = sym e
         go false c e = absurd (false≢true (sym e))
 
     step : (i : ℕ) → i + 1 < length t / 10 → keyAt t i < keyAt t (i + 1)
-    step i h = ltb-true (keyAt t i) (keyAt t (i + 1)) (go (ltb (keyAt t i) (keyAt t (i + 1))) (rising (drop (i + 1) (placesOf t))) (sym (left i (omega arith)) ∙ turn i h))
+    step i h = ltb-true (keyAt t i) (keyAt t (i + 1)) (go (ltb (keyAt t i) (keyAt t (i + 1))) (rising (drop (i + 1) (placesOf t))) (sym (left i
+        (omega arith)) ∙ turn i h))
       where
         go : (a c : Bool) → true ≡ a && c → a ≡ true
         go true c e = refl

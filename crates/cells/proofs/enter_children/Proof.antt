@@ -1,3 +1,5 @@
+-- `cells::enter_children` meets its contract: before each turn the tables hold the cells of 1 + 8 × (split records before n) records, and no split
+-- cell of depth 10 was met.
 use mathlib.Core.Path.{_∙_, sym, ap, refl, subst}
 use mathlib.Core.Bool.{true≢false}
 use native.Mathlib.Omega.{arith}
@@ -8,7 +10,18 @@ use Rattle.octree.proofs.Queue.{box}
 use Rattle.octree.proofs.Records.{cell-count}
 use Rattle.cells.proofs.Written.{written-length}
 use Rattle.cells.specs.Laid.{octantKey, cellAt}
-use Rattle.cells.proofs.Laying.{own, leaf-step, leaf-shallow, split-deep, split-shallow, split-turn, children-fit, all-entered, none-deeper, key-of-cell-small}
+use Rattle.cells.proofs.Laying.{
+  own,
+  leaf-step,
+  leaf-shallow,
+  split-deep,
+  split-shallow,
+  split-turn,
+  children-fit,
+  all-entered,
+  none-deeper,
+  key-of-cell-small,
+}
 use Prim.Native.Nat.{_+_, _-_, _*_, _/_, _^_, _≤_}
 use mathlib.Core.Path.{_≡_}
 use lib.ListN.{length, drop}

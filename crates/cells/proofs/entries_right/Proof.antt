@@ -1,3 +1,4 @@
+-- `cells::entries_right` meets its contract: before each turn the rule of the entries holds of what is left just if it holds of all.
 use lib.Dec.{eqb}
 use mathlib.Core.Path.{ap}
 use Prim.Native.Nat.{ℕ, _+_, _*_}
@@ -50,14 +51,15 @@ returns : tie.Need-returns Inv-loop μ-loop
 returns c =
     let l = c .before .before .before .before in
     let t = l .before .before .args .cells .now in
-    sym (wrong-entry t (l .loop .n) (l .loop .k) _ (c .before .before .cell-entry .ensures) (omega arith) (c .before .if1 .left) (c .if2 .taken)) ∙ l .loop .inv .2
+    sym (wrong-entry t (l .loop .n) (l .loop .k) _ (c .before .before .cell-entry .ensures) (omega arith) (c .before .if1 .left) (c .if2 .taken))
+    ∙ l .loop .inv .2
 
 returns-2 : tie.Need-returns-2 Inv-loop μ-loop
 returns-2 c =
     let l = c .before .before .before .before .before in
     let t = l .before .before .args .cells .now in
     sym (early-entry t (l .loop .n) (l .loop .k) _ (c .before .before .before .cell-entry .ensures) (omega arith) (c .before .before .if1 .left)
-    (c .before .if2 .left) (c .if3 .taken)) ∙ l .loop .inv .2
+    (c .before .if2 .left) (omega arith)) ∙ l .loop .inv .2
 
 add-k : tie.Need-add-k Inv-loop μ-loop
 add-k c = search needs
@@ -73,7 +75,7 @@ loop-again-2 c =
     let l = c .before .before .before .before .before in
     let t = l .before .before .args .cells .now in
     let passes = split-passes t (l .loop .n) (l .loop .k) _ (c .before .before .before .cell-entry .ensures) (omega arith) (c .before .before .if1 .left)
-    (c .before .if2 .left) (c .if3 .left) in
+    (c .before .if2 .left) (omega arith) in
     (search needs, search needs, passes ∙ l .loop .inv .2)
 
 mul-result : tie.Need-mul-result Inv-loop μ-loop

@@ -1,3 +1,4 @@
+-- `cells::lay_out` meets its contract: the box is entered first, then the children of each split record.
 use native.Mathlib.Omega.{arith}
 use mathlib.Core.Path.{_∙_, ap}
 use lib.ListN.{length, length-set}

@@ -1,3 +1,4 @@
+-- `cells::octant_key` meets its contract: the product is the definition's, and small.
 use Prim.Native.Nat.{_+_, _*_, _%_, _/_}
 use native.Mathlib.Nat.{mul-le-mul-left}
 use native.Mathlib.Omega.{arith}

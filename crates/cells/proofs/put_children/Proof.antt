@@ -1,3 +1,4 @@
+-- `cells::put_children` meets its contract: before each turn the first i children are written, and all else is as it was.
 use Prim.Native.Nat.{ℕ, _^_}
 use mathlib.Core.Path.{_∙_, ap, refl}
 use mathlib.Core.List.{List}
@@ -27,8 +28,14 @@ size-of-requires c κs = search needs
 
 loop-holds : tie.Need-loop-holds Inv-loop μ-loop
 loop-holds c =
-    let a = c .before .before .before .args in
-    (omega arith, refl, refl, written-none (λ j. a .key + octantKey j (c .size-of .result)) (a .at) (a .keys .now), written-none (λ j. a .level) (a .at) (a .levels .now))
+    let a = c .before .before .before .args in (
+      omega arith,
+      refl,
+      refl,
+      written-none (λ j. a .key + octantKey j (c .size-of .result)) (a .at) (a .keys .now),
+      written-none (λ j. a .level)
+          (a .at) (a .levels .now),
+    )
 
 octant-key-requires : tie.Need-octant-key-requires Inv-loop μ-loop
 octant-key-requires c κs =
@@ -73,7 +80,8 @@ loop-again c =
       search needs,
       length-set (l .loop .keys) (a .at + i) (a .key + c .octant-key .result) ∙ v .1,
       length-set (l .loop .levels) (a .at + i) (a .level) ∙ v .2,
-      written-turn (λ j. a .key + octantKey j size) (a .at) i _ (l .loop .keys) (a .keys .now) (v .3) (ap (λ (k : ℕ). a .key + k) (c .octant-key .ensures)) (omega arith),
+      written-turn (λ j. a .key + octantKey j size) (a .at) i _ (l .loop .keys) (a .keys .now) (v .3) (ap (λ (k : ℕ). a .key + k)
+          (c .octant-key .ensures)) (omega arith),
       written-turn (λ j. a .level) (a .at) i (a .level) (l .loop .levels) (a .levels .now) (v .4) refl (omega arith),
     )
 

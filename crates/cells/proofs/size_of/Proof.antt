@@ -1,3 +1,4 @@
+-- `cells::size_of` meets its contract: a shift of 1 loses no bit.
 use Rattle.cells.proofs.Octants.{shifted}
 use borrow.Author.Needs.{needs}
 use Rattle.cells.proofs.size_of.Statement.{statement}

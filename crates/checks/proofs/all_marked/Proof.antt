@@ -1,3 +1,4 @@
+-- `checks::all_marked` meets its contract: before each turn the records that are left are marked just if all are.
 use Prim.Native.Nat.{_-_, _≤_}
 use mathlib.Core.Path.{_≡_, _∙_, sym, refl}
 use native.Mathlib.Omega.{arith}

@@ -1,3 +1,4 @@
+-- `checks::bad_sounding` meets its contract: before each turn a sounding that is left is out of range just if one is at all.
 use mathlib.Core.Path.{ap}
 use mathlib.Core.Bool.{not}
 use Prim.Native.Nat.{_-_, _≤_}

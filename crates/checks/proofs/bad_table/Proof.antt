@@ -1,3 +1,4 @@
+-- `checks::bad_table` meets its contract: one test after the other.
 use Rattle.checks.proofs.Tables.{empty-table, part-table, whole-table}
 use borrow.Author.Needs.{needs}
 use Rattle.checks.proofs.bad_table.Statement.{statement}

@@ -1,3 +1,4 @@
+-- `checks::corners_right` meets its contract: a corner that is missing decides, and else the marks.
 use native.Mathlib.Omega.{arith}
 use mathlib.Core.Path.{_∙_, sym, ap}
 use borrow.Author.Tests.{not-true, not-false}
@@ -17,13 +18,16 @@ mark-cells-requires c κs =
     let entered = s .pre .1 .0 .entered in (
       s .pre .1 .1 .1 .0 .0,
       (
-      s .pre .1 .1 .1 .1,
-      (
-      s .pre .1 .1 .1 .0 .1,
-      (
-      s .pre .1 .1 .0,
-      λ n h. let o = entered n h in
-      (key-of-cell-small (a .cells .now) (a .keys .now) (a .levels .now) n o, omega (arith, o .level, o .shallow))))),
+        s .pre .1 .1 .1 .1,
+        (
+          s .pre .1 .1 .1 .0 .1,
+          (
+            s .pre .1 .1 .0,
+            λ n h. let o = entered n h in
+                (key-of-cell-small (a .cells .now) (a .keys .now) (a .levels .now) n o, omega (arith, o .level, o .shallow)),
+          ),
+        ),
+      ),
     )
 
 returns : tie.Need-returns

@@ -1,3 +1,4 @@
+-- `checks::mark_cells` meets its contract: before each turn the cells that are left decide whether a corner is missing, and what is left to mark.
 use Prim.Native.Nat.{_+_, _-_, _≤_}
 use mathlib.Core.Path.{_≡_, _∙_, sym, refl, ap}
 use mathlib.Core.Bool.{false≢true}
@@ -78,7 +79,8 @@ loop-again c =
       search needs,
       ap length wrote ∙ marked-length (cornerNumbers t (getD keys n 0) (getD levels n 0)) (l .loop .marks) ∙ v .1,
       cell-has t keys levels (a .cells) n (a .count) (omega arith) there ∙ v .2,
-      ap (marked (numbersFrom t keys levels (a .cells) (n + 1))) wrote ∙ cell-marked t keys levels (a .cells) n (a .count) (omega arith) (l .loop .marks) ∙ v .3,
+      ap (marked (numbersFrom t keys levels (a .cells) (n + 1))) wrote ∙ cell-marked t keys levels (a .cells) n (a .count) (omega arith)
+          (l .loop .marks) ∙ v .3,
     )
 
 same-length-2 : tie.Need-same-length-2 Inv-loop μ-loop

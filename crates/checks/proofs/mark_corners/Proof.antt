@@ -1,3 +1,4 @@
+-- `checks::mark_corners` meets its contract: before each turn the corners that are left decide whether one is missing, and what is left to mark.
 use Prim.Native.Nat.{ℕ, _+_, _^_}
 use mathlib.Core.Path.{ap, refl}
 use mathlib.Core.Bool.{false≢true}
@@ -89,7 +90,7 @@ loop-again c =
       ap length wrote ∙ length-set (l .loop .marks) at 1 ∙ v .1,
       corner-there t (a .key) (a .level) i (omega arith) at (a .count) found (omega arith) ∙ v .2,
       ap (marked (drop (i + 1) (cornerNumbers t (a .key) (a .level)))) wrote
-      ∙ corner-marked t (a .key) (a .level) i (omega arith) at (a .count) found (l .loop .marks) ∙ v .3,
+          ∙ corner-marked t (a .key) (a .level) i (omega arith) at (a .count) found (l .loop .marks) ∙ v .3,
     )
 
 same-length-2 : tie.Need-same-length-2 Inv-loop μ-loop

@@ -1,3 +1,4 @@
+-- `checks::refusal` meets its contract: the clearance is looked at where the survey is not refused.
 use mathlib.Core.Path.{_∙_, sym, ap}
 use mathlib.Core.Bool.{not}
 use Rattle.checks.proofs.Order.{survey-refused, clearance-refused, nothing-refused}

@@ -1,3 +1,4 @@
+-- `records::cell_entry` meets its contract: each need is arithmetic on the record's place.
 use borrow.Author.Needs.{needs}
 use Rattle.records.proofs.cell_entry.Statement.{statement}
 use Rattle.records.proofs.cell_entry.Tie as tie

@@ -1,3 +1,4 @@
+-- `records::corner_at` meets its contract: each field is what its callee reads, and a record's parts are parts of the table.
 use mathlib.Core.Path.{_∙_, ap}
 use lib.Ieee.{binary32, ofBits}
 use Rattle.records.proofs.Bytes.{corner-is}

@@ -1,3 +1,4 @@
+-- `records::corners_rise` meets its contract: before each turn what is left of the records rises just if all do.
 use native.Mathlib.Omega.{arith}
 use mathlib.Core.Path.{_∙_, sym}
 use Rattle.records.proofs.Search.{rise-breaks, rise-goes-on, rise-ends}

@@ -1,3 +1,4 @@
+-- `records::find` meets its contract: before each turn the records below `low` have smaller keys, and those from `high` on keys that are no smaller.
 use native.Mathlib.Omega.{arith}
 use mathlib.Core.Path.{_∙_, sym}
 use Rattle.records.proofs.Search.{below-middle, from-middle, is-at, is-nowhere}
@@ -9,7 +10,8 @@ use Rattle.records.proofs.find.Statement.{statement}
 use Rattle.records.proofs.find.Tie as tie
 
 abbrev Inv-loop : tie.InvT-loop
-Inv-loop corners count key low₀ high₀ low high = (low ≤ high) × (high ≤ count) × ((j : ℕ) → j < low → keyAt corners j < key) × ((j : ℕ) → high ≤ j → j < count → key ≤ keyAt corners j)
+Inv-loop corners count key low₀ high₀ low high = (low ≤ high) × (high ≤ count) × ((j : ℕ) → j < low → keyAt corners j < key) × ((j : ℕ) → high ≤ j
+    → j < count → key ≤ keyAt corners j)
 
 abbrev μ-loop : tie.MeasureT-loop
 μ-loop corners count key low₀ high₀ low high = high - low

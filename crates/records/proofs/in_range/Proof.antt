@@ -1,3 +1,4 @@
+-- `records::in_range` meets its contract: the two literals are the bounds of the rules.
 use Rattle.records.proofs.Patterns.{in-range-is, below-range-is}
 use Rattle.records.proofs.in_range.Statement.{statement}
 use Rattle.records.proofs.in_range.Tie as tie

@@ -1,3 +1,4 @@
+-- `records::is_wet` meets its contract: the comparison is that of the rules.
 use mathlib.Core.Path.{refl}
 use Rattle.rules.specs.Survey.{wet}
 use Rattle.records.proofs.is_wet.Statement.{statement}

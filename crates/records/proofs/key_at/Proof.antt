@@ -1,3 +1,4 @@
+-- `records::key_at` meets its contract: the key is that of the corner taken up.
 use mathlib.Core.Path.{_∙_, ap}
 use Rattle.records.specs.Keys.{keyOf}
 use Rattle.rules.specs.Survey.{placeOf}

@@ -1,3 +1,4 @@
+-- `records::key_of` meets its contract: the sum is the definition's.
 use Rattle.records.specs.Keys.{keyOf}
 use borrow.Author.Needs.{needs}
 use Rattle.records.proofs.key_of.Statement.{statement}

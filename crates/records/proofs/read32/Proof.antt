@@ -1,3 +1,4 @@
+-- `records::read32` meets its contract: a number of four bytes, from two of two.
 use native.Mathlib.Omega.{arith}
 use Rattle.records.proofs.Bytes.{little-four}
 use borrow.Author.Needs.{needs}

@@ -1,0 +1,93 @@
+-- What a survey that checks 1 to 7 pass gives the code above: counts that fit its tables, the rules that its look-ups ask, soundings in range,
+-- and for every corner of every cell a record, which is the corner that the rules take there.
+use Prim.Native.Nat.{ℕ, _+_, _/_, _^_, _≤_, _<_}
+use mathlib.Core.Path.{_≡_, sym, ap, _∙_, subst}
+use mathlib.Core.Logic.{_⊎_, inl, inr}
+use mathlib.Core.Bool.{Bool, true, false, not, _&&_}
+use mathlib.Core.List.{List, map}
+use native.Mathlib.Omega.{arith}
+use lib.Dec.{T, eqb}
+use lib.ListN.{length, getD}
+use Rattle.base.specs.Lists.{all, any}
+use Rattle.base.specs.Grid.{Place, origin, Axis, X, Y, along, same}
+use Rattle.base.proofs.Tests.{and→, true→, false→}
+use Rattle.base.proofs.Lists.{In, in-get, all→in}
+use Rattle.base.proofs.Octants.{octant→}
+use Rattle.rules.specs.Survey.{Cell, entries, cellsOf, cellCorners, cornerRecord, cornersOf, cornerAt, placeOf}
+use Rattle.rules.specs.Outputs.{entriesRight, rising, cornersRight, inRange}
+use Rattle.rules.specs.declared.Corner.{Corner}
+use Rattle.octree.proofs.Queue.{box}
+use Rattle.octree.proofs.Records.{cell-count}
+use Rattle.octree.proofs.Cells.{→cell}
+use Rattle.octree.proofs.Tree.{octree-of}
+use Rattle.octree.proofs.Aligned.{cell-in-box}
+use Rattle.octree.proofs.Accepted.{Checked}
+use Rattle.records.specs.Keys.{keyOf, placesOf, recordAt}
+use Rattle.records.proofs.Keys.{Bytes, Short, nowhere, length-corners, get-corner}
+use Rattle.records.proofs.Found.{listed-found, corner-found}
+use Rattle.cells.specs.Laid.{cellAt, tooDeep}
+use Rattle.checks.proofs.Order.{table-fits}
+use Rattle.checks.proofs.Corners.{corner}
+
+module _ (tc tk : List ℕ) (c : Checked tc tk) where
+  -- what `lay_out` and `find` ask
+  pub entries-pass : entriesRight 0 0 (entries tc) ≡ true
+  entries-pass = true→ (entriesRight 0 0 (entries tc)) (c .entries-right)
+
+  pub none-too-deep : any tooDeep (cellsOf tc) ≡ false
+  none-too-deep = false→ (any tooDeep (cellsOf tc)) (c .units-whole)
+
+  pub places-rise : rising (placesOf tk) ≡ true
+  places-rise = true→ (rising (placesOf tk)) (c .rises)
+
+  -- the tables are short
+  pub few-cells : length tc / 4 ≤ 2049
+  few-cells = omega (arith, table-fits 4 8196 tc (c .cell-table))
+
+  pub few-corners : length tk / 10 ≤ 4872
+  few-corners = omega (arith, table-fits 10 48720 tk (c .corner-table))
+
+  pub sounding-in-range : (k : ℕ) → k < length tk / 10 → T (inRange (cornerRecord tk k .sounding))
+  sounding-in-range k h =
+      subst (λ (r : Corner). T (inRange (r .sounding))) (get-corner tk k nowhere h)
+      (c .soundings (getD (cornersOf tk) k nowhere) (in-get (cornersOf tk) k nowhere (omega (arith, length-corners tk))))
+
+  module _ (n : ℕ) (h : n < length tc / 4) where
+    cell-in : In (cellAt tc n) (cellsOf tc)
+    cell-in = in-get (cellsOf tc) n box (omega (arith, cell-count tc (c .entries-right)))
+
+    -- the cell lies in the box
+    pub in-box : (a : Axis) → along a (cellAt tc n .low) + 2 ^ cellAt tc n .level ≤ 1024
+    in-box = cell-in-box (cellsOf tc) (octree-of tc (c .entries-right) (c .units-whole)) (cellAt tc n .level) (cellAt tc n .low) (→cell (cellsOf tc)
+        (cellAt tc n) cell-in)
+
+    module _ (i : ℕ) (g : i < 8) where
+      -- corner i of the cell is listed
+      pub corner-listed : T (any (same (corner tc n i)) (placesOf tk))
+      unfolding cornersRight
+      corner-listed =
+          let listed : T (all (λ d. all (λ p. any (same p) (placesOf tk)) (cellCorners d)) (cellsOf tc)) =
+          and→ (all (λ d. all (λ p. any (same p) (placesOf tk)) (cellCorners d)) (cellsOf tc))
+          (all (λ p. any (λ d. any (same p) (cellCorners d)) (cellsOf tc)) (placesOf tk)) (c .corners-right) .0 in
+          all→in (λ p. any (same p) (placesOf tk)) (cellCorners (cellAt tc n))
+          (all→in (λ d. all (λ p. any (same p) (placesOf tk)) (cellCorners d)) (cellsOf tc) listed (cellAt tc n) cell-in)
+          (corner tc n i) (in-get (cellCorners (cellAt tc n)) i origin g)
+
+      pub corner-in-box : (a : Axis) → along a (corner tc n i) ≤ 1024
+      corner-in-box a =
+          go (octant→ (2 ^ cellAt tc n .level) (cellAt tc n .low) (corner tc n i) (in-get (cellCorners (cellAt tc n)) i origin g) a)
+        where
+          go : (along a (corner tc n i) ≡ along a (cellAt tc n .low)) ⊎ (along a (corner tc n i) ≡ along a (cellAt tc n .low) + 2 ^ cellAt tc n .level)
+              → along a (corner tc n i) ≤ 1024
+          go (inl e) = omega (arith, in-box a)
+          go (inr e) = omega (arith, in-box a)
+
+      fits : Short (corner tc n i)
+      fits = record { x-fits = omega (arith, corner-in-box X); y-fits = omega (arith, corner-in-box Y) }
+
+      -- the look-up finds its record, which is the corner that the rules take there
+      pub found : Bytes tk → recordAt tk (keyOf (corner tc n i)) < length tk / 10
+      found b = listed-found tk b (corner tc n i) fits corner-listed
+
+      pub taken : Bytes tk → cornerAt (cornersOf tk) (corner tc n i) ≡ cornerRecord tk (recordAt tk (keyOf (corner tc n i)))
+      taken b = corner-found tk b (corner tc n i) fits (found b)

@@ -1,0 +1,211 @@
+-- The edge enquiry: the level of a length, the answer from the tables, and the order of the refusals.
+use Prim.Native.Nat.{ℕ, zero, suc, _+_, _-_, _*_, _/_, _^_, _≤_, _<_}
+use mathlib.Core.Path.{_≡_, refl, sym, ap, _∙_, subst}
+use mathlib.Core.Logic.{_⊎_, inl, inr}
+use mathlib.Core.Bool.{Bool, true, false, not, _&&_, cond}
+use mathlib.Core.List.{List, [], _∷_, _++_}
+use native.Mathlib.Omega.{arith}
+use lib.Dec.{T, eqb, ltb}
+use lib.Ieee.{Float}
+use lib.ListN.{length, getD}
+use borrow.Author.Tests.{eq-eqb, ne-eqb, lt-ltb, le-ltb}
+use Rattle.base.specs.Lists.{any, first, count}
+use Rattle.base.specs.Grid.{Place, Axis, along, move, axisOf, same}
+use Rattle.base.proofs.Tests.{→true, true→, either, false→}
+use Rattle.rules.specs.Survey.{cellsOf, cornersOf, wetAt, entries, Survey}
+use Rattle.rules.specs.Edges.{CellEdge, edge, isEdge, odd, numberOf, carrier, pointOf, pointEdges, Spot, spotOn}
+use Rattle.rules.specs.Outputs.{firstOf, checks, accepted, surveyRefusal, surveyOf, entriesRight, levelOf, enquiry}
+use Rattle.rules.specs.declared.Edge.the-variants.{Even, Crossing}
+use Rattle.rules.specs.declared.Answer.{Answer}
+use Rattle.rules.specs.declared.Answer.the-variants.{Refused, Found}
+use Rattle.records.specs.Keys.{keyOf, placesOf}
+use Rattle.cells.specs.Laid.{tooDeep}
+use Rattle.octree.proofs.Lawful.{Lawful}
+use Rattle.octree.proofs.Accepted.{Checked, checked, accepted→, lawful, numbered, first-append}
+use Rattle.octree.proofs.Edges.{edge→}
+use Rattle.octree.proofs.Aligned.{corner-place}
+use Rattle.octree.proofs.Halves.{carrier-crossed}
+use Rattle.octree.proofs.Points.{crossed-carries}
+use Rattle.edges.specs.Tables.{placeAt, slotsBelow, slotEdge, Lowest, Slots, OddEdge, Sought}
+use Rattle.edges.specs.Enquiry.{edgeAnswer}
+use Rattle.edges.proofs.Readings.{edges-law}
+use Rattle.edges.proofs.Descent.{point-is}
+use Rattle.edges.proofs.TwinSlots.{points-slots, point-edge-is}
+
+-- ---- the level of a length
+
+-- the first level, of n from l on, whose size this is; or 11
+abbrev pub levelFrom : ℕ → ℕ → ℕ → ℕ
+levelFrom size l n = first (λ i. eqb (2 ^ i) size) 11 (count l n)
+
+pub level-start : (size : ℕ) → levelOf size ≡ levelFrom size 0 11
+level-start size = refl
+
+pub level-hit : (size l n : ℕ) → 2 ^ l ≡ size → levelFrom size l (suc n) ≡ l
+level-hit size l n e = rw (eq-eqb (2 ^ l) size e)
+
+pub level-miss : (size l n : ℕ) → (2 ^ l ≡ size → ⊥) → levelFrom size l (suc n) ≡ levelFrom size (suc l) n
+level-miss size l n e = rw (ne-eqb (2 ^ l) size e)
+
+pub key-is : (x y z : ℕ) → x + 65536 * y + 4294967296 * z ≡ keyOf (record { x = x; y = y; z = z })
+unfolding keyOf
+key-is x y z = refl
+
+-- ---- the answer
+
+module _ (tc tk : List ℕ) (clearance : Float) (a : Axis) (p : Place) (l : ℕ) where
+  abbrev s : Survey
+  s = surveyOf tc tk clearance
+
+  abbrev here : Answer
+  here =
+      Found (cond (odd (wetAt (cornersOf tk) clearance) a p l)
+      (Crossing (numberOf s (carrier s a p l)) (spotOn (cornersOf tk) clearance (carrier s a p l) .x) (spotOn (cornersOf tk) clearance (carrier s a p l) .y)
+      (spotOn (cornersOf tk) clearance (carrier s a p l) .z)) Even)
+
+  answer-is : edgeAnswer tc tk clearance a p l ≡ cond (isEdge (cellsOf tc) a p l) here (Refused 11)
+  unfolding edgeAnswer
+  answer-is = refl
+
+  pub answer-none : isEdge (cellsOf tc) a p l ≡ false → Refused 11 ≡ edgeAnswer tc tk clearance a p l
+  answer-none h = sym (answer-is ∙ ap (λ b. cond b here (Refused 11)) h)
+
+  module _ (t : T (isEdge (cellsOf tc) a p l)) where
+    found-here : here ≡ edgeAnswer tc tk clearance a p l
+    found-here = sym (answer-is ∙ ap (λ b. cond b here (Refused 11)) (true→ (isEdge (cellsOf tc) a p l) t))
+
+    pub answer-even : odd (wetAt (cornersOf tk) clearance) a p l ≡ false → Found Even ≡ edgeAnswer tc tk clearance a p l
+    answer-even h =
+        ap (λ b. Found (cond b
+        (Crossing (numberOf s (carrier s a p l)) (spotOn (cornersOf tk) clearance (carrier s a p l) .x) (spotOn (cornersOf tk) clearance (carrier s a p l) .y)
+        (spotOn (cornersOf tk) clearance (carrier s a p l) .z)) Even)) (sym h) ∙ found-here
+
+    pub answer-crossing : odd (wetAt (cornersOf tk) clearance) a p l ≡ true → (n : ℕ) → n ≡ numberOf (surveyOf tc tk clearance) (carrier (surveyOf tc tk clearance) a p l) →
+        (q : Spot) → q ≡ spotOn (cornersOf tk) clearance (carrier (surveyOf tc tk clearance) a p l) →
+        Found (Crossing n (q .x) (q .y) (q .z)) ≡ edgeAnswer tc tk clearance a p l
+    answer-crossing h n e q f =
+        (λ i. Found (Crossing (e i) (f i .x) (f i .y) (f i .z))) ∙
+        ap (λ b. Found (cond b
+        (Crossing (numberOf s (carrier s a p l)) (spotOn (cornersOf tk) clearance (carrier s a p l) .x) (spotOn (cornersOf tk) clearance (carrier s a p l) .y)
+        (spotOn (cornersOf tk) clearance (carrier s a p l) .z)) Even)) (sym h) ∙ found-here
+
+-- ---- an accepted survey
+
+module _ (tc tk : List ℕ) (clearance : Float) (ok : accepted tc tk clearance ≡ true) where
+  law : Lawful (surveyOf tc tk clearance)
+  law = lawful tc tk clearance (→true ok)
+
+  pub no-refusal : surveyRefusal tc tk ≡ 0
+  no-refusal = accepted→ tc tk clearance (→true ok) .0
+
+  pub entries-good : entriesRight 0 0 (entries tc) ≡ true
+  entries-good = true→ (entriesRight 0 0 (entries tc)) (checked tc tk no-refusal .entries-right)
+
+  pub none-deep : any tooDeep (cellsOf tc) ≡ false
+  none-deep = false→ (any tooDeep (cellsOf tc)) (checked tc tk no-refusal .units-whole)
+
+  pub edge-shallow : (a : Axis) (q : Place) (l : ℕ) → T (isEdge (cellsOf tc) a q l) → l ≤ 10
+  unfolding surveyOf
+  edge-shallow a q l t = edges-law tc tk clearance ok .shallow a q l t
+
+  pub upper-listed : (a : Axis) (q : Place) (l : ℕ) → T (isEdge (cellsOf tc) a q l) → T (any (same (move a (2 ^ l) q)) (placesOf tk))
+  unfolding surveyOf
+  upper-listed a q l t = edges-law tc tk clearance ok .upper-end a q l t
+
+  -- no edge starts outside the box
+  pub far-off : (a b : Axis) (p : Place) (l : ℕ) → 1024 < along b p → isEdge (cellsOf tc) a p l ≡ false
+  unfolding surveyOf
+  far-off a b p l h = go (either (isEdge (cellsOf tc) a p l))
+    where
+      go : T (isEdge (cellsOf tc) a p l) ⊎ (isEdge (cellsOf tc) a p l ≡ false) → isEdge (cellsOf tc) a p l ≡ false
+      go (inl t) =
+          let (q, c, e, f) = edge→ (cellsOf tc) a p l t in
+          absurd (omega (arith, corner-place (cellsOf tc) (law .octree) l q p c f b .1))
+      go (inr e) = e
+
+  -- the point of an odd edge by its number: its slot
+  module _ (lowest : List ℕ) (low : Lowest tc tk lowest) (a : Axis) (k l : ℕ) (o : OddEdge tc tk clearance a k l) (n : ℕ)
+      (e : n ≡ pointOf (surveyOf tc tk clearance) (edge a (placeAt (placesOf tk) k) l)) where
+    abbrev c : CellEdge
+    c = carrier (surveyOf tc tk clearance) a (placeAt (placesOf tk) k) l
+
+    pub number-is : n ≡ numberOf (surveyOf tc tk clearance) (carrier (surveyOf tc tk clearance) a (placeAt (placesOf tk) k) l)
+    number-is = e ∙ point-is (surveyOf tc tk clearance) (edge a (placeAt (placesOf tk) k) l)
+
+    carried : (numberOf (surveyOf tc tk clearance) c < length (pointEdges (surveyOf tc tk clearance))) ×
+        (getD (pointEdges (surveyOf tc tk clearance)) (numberOf (surveyOf tc tk clearance) c) c ≡ c)
+    unfolding surveyOf
+    carried =
+        crossed-carries (surveyOf tc tk clearance) law c
+        (carrier-crossed (surveyOf tc tk clearance) (law .octree) a (placeAt (placesOf tk) k) l (o .is-edge) (o .is-odd))
+
+    pub number-inside : n < length (slotsBelow (surveyOf tc tk clearance) 14616)
+    number-inside = omega (arith, number-is, carried .0, points-slots tc tk clearance ok lowest low)
+
+    pub slot-carries : (slots : List ℕ) → Slots (surveyOf tc tk clearance) slots →
+        slotEdge (surveyOf tc tk clearance) (getD slots n 0) ≡ carrier (surveyOf tc tk clearance) a (placeAt (placesOf tk) k) l
+    slot-carries slots at =
+        sym (point-edge-is tc tk clearance ok lowest low slots at n number-inside c) ∙
+        ap (λ m. getD (pointEdges (surveyOf tc tk clearance)) m c) number-is ∙ carried .1
+
+-- ---- the order of the refusals
+
+module _ (tc tk : List ℕ) (clearance : Float) (axis : ℕ) (p : Place) (size : ℕ) where
+  abbrev last : Bool
+  last = not (ltb axis 3 && isEdge (cellsOf tc) (axisOf axis) p (levelOf size))
+
+  abbrev found : Answer
+  found = here tc tk clearance (axisOf axis) p (levelOf size)
+
+  numbers-good : T (numbered (checks tc tk clearance))
+  unfolding checks
+  numbers-good = unfold checks in tt
+
+  number-of : firstOf (checks tc tk clearance ++ (11, last) ∷ []) ≡ cond (eqb (firstOf (checks tc tk clearance)) 0) (cond last 11 0) (firstOf (checks tc tk clearance))
+  number-of = first-append (checks tc tk clearance) ((11, last) ∷ []) numbers-good
+
+  enquiry-is : enquiry tc tk clearance axis p size ≡
+      cond (eqb (firstOf (checks tc tk clearance ++ (11, last) ∷ [])) 0) found (Refused (firstOf (checks tc tk clearance ++ (11, last) ∷ [])))
+  unfolding enquiry
+  enquiry-is = refl
+
+  pub enquiry-refused : (n : ℕ) → n ≡ firstOf (checks tc tk clearance) → (n ≡ 0 → ⊥) → Refused n ≡ enquiry tc tk clearance axis p size
+  enquiry-refused n e h =
+      let z : eqb (firstOf (checks tc tk clearance)) 0 ≡ false = ne-eqb (firstOf (checks tc tk clearance)) 0 (λ q. h (e ∙ q)) in
+      let m : firstOf (checks tc tk clearance ++ (11, last) ∷ []) ≡ firstOf (checks tc tk clearance) =
+      number-of ∙ ap (λ b. cond b (cond last 11 0) (firstOf (checks tc tk clearance))) z in
+      ap (λ k. Refused k) (e ∙ sym m) ∙
+      sym (enquiry-is ∙ ap (λ b. cond b found (Refused (firstOf (checks tc tk clearance ++ (11, last) ∷ [])))) (ap (λ k. eqb k 0) m ∙ z))
+
+  module _ (n : ℕ) (e : n ≡ firstOf (checks tc tk clearance)) (h : n ≡ 0) where
+    pub is-accepted : accepted tc tk clearance ≡ true
+    unfolding accepted
+    is-accepted = eq-eqb (firstOf (checks tc tk clearance)) 0 (sym e ∙ h)
+
+    number-last : firstOf (checks tc tk clearance ++ (11, last) ∷ []) ≡ cond last 11 0
+    number-last =
+        number-of ∙ ap (λ b. cond b (cond last 11 0) (firstOf (checks tc tk clearance))) (eq-eqb (firstOf (checks tc tk clearance)) 0 (sym e ∙ h))
+
+    last-is : enquiry tc tk clearance axis p size ≡ cond (eqb (cond last 11 0) 0) found (Refused (cond last 11 0))
+    last-is = enquiry-is ∙ ap (λ k. cond (eqb k 0) found (Refused k)) number-last
+
+    refused : last ≡ true → Refused 11 ≡ enquiry tc tk clearance axis p size
+    refused g = sym (last-is ∙ ap (λ b. cond (eqb (cond b 11 0) 0) found (Refused (cond b 11 0))) g)
+
+    -- an axis above 2
+    pub axis-refused : 3 ≤ axis → Refused 11 ≡ enquiry tc tk clearance axis p size
+    axis-refused g = refused (ap (λ b. not (b && isEdge (cellsOf tc) (axisOf axis) p (levelOf size))) (le-ltb axis 3 g))
+
+    -- no cell has the edge
+    pub edge-refused : axis < 3 → isEdge (cellsOf tc) (axisOf axis) p (levelOf size) ≡ false → Refused 11 ≡ enquiry tc tk clearance axis p size
+    edge-refused g f = refused (λ i. not (lt-ltb axis 3 g i && f i))
+
+    pub enquiry-answer : axis < 3 → edgeAnswer tc tk clearance (axisOf axis) p (levelOf size) ≡ enquiry tc tk clearance axis p size
+    enquiry-answer g =
+        answer-is tc tk clearance (axisOf axis) p (levelOf size) ∙ go (isEdge (cellsOf tc) (axisOf axis) p (levelOf size)) ∙
+        sym (last-is ∙ ap (λ b. cond (eqb (cond (not (b && isEdge (cellsOf tc) (axisOf axis) p (levelOf size))) 11 0) 0) found
+        (Refused (cond (not (b && isEdge (cellsOf tc) (axisOf axis) p (levelOf size))) 11 0))) (lt-ltb axis 3 g))
+      where
+        go : (b : Bool) → cond b found (Refused 11) ≡ cond (eqb (cond (not b) 11 0) 0) found (Refused (cond (not b) 11 0))
+        go true = refl
+        go false = refl

@@ -1,0 +1,16 @@
+pub mod Starts
+pub mod Levels
+pub mod Points
+pub mod Find
+pub mod Notes
+pub mod Surveyed
+pub mod Filled
+pub mod Lawfully
+pub mod Readings
+pub mod Numbering
+pub mod Descent
+pub mod Climbing
+pub mod Twins
+pub mod TwinSlots
+pub mod Places
+pub mod Enquiring

@@ -1,0 +1,131 @@
+-- What the code reads from the tables, in the words of the rules; of a survey that is accepted at a clearance.
+use Prim.Native.Nat.{ℕ, zero, suc, _+_, _-_, _*_, _/_, _%_, _^_, _≤_, _<_}
+use mathlib.Core.Path.{_≡_, refl, sym, ap, _∙_, subst}
+use mathlib.Core.Logic.{_⊎_, inl, inr}
+use mathlib.Core.Bool.{Bool, true, false, not, _&&_, Bool·beq, cond}
+use mathlib.Core.List.{List}
+use native.Mathlib.Omega.{arith}
+use lib.Dec.{T, eqb, ltb}
+use lib.Ieee.{Float}
+use lib.ListN.{length, getD}
+use borrow.Author.Tests.{lt-ltb, le-ltb}
+use Rattle.base.specs.Lists.{any, bit}
+use Rattle.base.specs.Grid.{Place, Axis, move, axisOf, same}
+use Rattle.base.proofs.Tests.{→true, true→, either}
+use Rattle.rules.specs.Survey.{cellsOf, cornersOf, wetAt, Survey}
+use Rattle.rules.specs.Edges.{edge, isEdge, odd, carrier, numberOf, pointOf}
+use Rattle.rules.specs.Outputs.{rising, surveyRefusal, accepted, surveyOf}
+use Rattle.records.specs.Keys.{keyOf, placesOf, recordAt}
+use Rattle.records.proofs.Keys.{Bytes, get-place, length-places}
+use Rattle.records.proofs.Search.{keyAt}
+use Rattle.octree.proofs.Accepted.{accepted→, lawful}
+use Rattle.octree.proofs.Halves.{one-odd-half}
+use Rattle.edges.specs.Tables.{placeAt, lowestLevel, crossedAt, crossedSlot, slotsBelow, slotEdge, Lowest, Wets, Numbers}
+use Rattle.edges.specs.Noting.{keyUnit, Corners}
+use Rattle.edges.proofs.Find.{key-move, found}
+use Rattle.edges.proofs.Levels.{Edged, edge→levels, lowest-edge, carrier-here, carrier-below, halves-below}
+use Rattle.edges.proofs.Points.{slot-is, edge-is, slot-number}
+use Rattle.edges.proofs.Lawfully.{edged}
+use Rattle.edges.proofs.Surveyed.{corners-known, corners-few}
+
+-- the key of the upper end of an edge from record k on
+pub upper-key : (t : List ℕ) (k l key r : ℕ) (a : Axis) → k < length t / 10 → key ≡ keyAt t k → r ≡ key + 2 ^ l * keyUnit a →
+    r ≡ keyOf (move a (2 ^ l) (placeAt (placesOf t) k))
+upper-key t k l key r a h e f =
+    f ∙ ap (λ n. n + 2 ^ l * keyUnit a) (e ∙ sym (ap keyOf (get-place t k h))) ∙ sym (key-move a (2 ^ l) (placeAt (placesOf t) k))
+
+-- ---- wetness
+
+marks-differ : (v w : Bool) → not (eqb (bit v) (bit w)) ≡ not (Bool·beq v w)
+marks-differ true true = refl
+marks-differ true false = refl
+marks-differ false true = refl
+marks-differ false false = refl
+
+-- an edge is odd just if the marks at its two records differ
+pub odd-read : (t : List ℕ) (clearance : Float) (wets : List ℕ) → Wets t clearance wets → (a : Axis) (k m l : ℕ) → k < length t / 10 → m < length t / 10 →
+    placeAt (placesOf t) m ≡ move a (2 ^ l) (placeAt (placesOf t) k) →
+    not (eqb (getD wets k 0) (getD wets m 0)) ≡ odd (wetAt (cornersOf t) clearance) a (placeAt (placesOf t) k) l
+unfolding odd
+odd-read t clearance wets w a k m l h g e =
+    (λ i. not (eqb (w .entry k h i) (w .entry m g i))) ∙
+    marks-differ (wetAt (cornersOf t) clearance (placeAt (placesOf t) k)) (wetAt (cornersOf t) clearance (placeAt (placesOf t) m)) ∙
+    ap (λ p. not (Bool·beq (wetAt (cornersOf t) clearance (placeAt (placesOf t) k)) (wetAt (cornersOf t) clearance p))) e
+
+-- ---- crossed slots
+
+module _ (s : Survey) (i : ℕ) where
+  axis-at : Axis
+  axis-at = axisOf (i / 4872)
+
+  pub slot-outside : length (s .places) ≤ i % 4872 → crossedSlot s i ≡ false
+  unfolding crossedSlot
+  slot-outside h = rw (le-ltb (i % 4872) (length (s .places)) h)
+
+  module _ (h : i % 4872 < length (s .places)) where
+    pub slot-empty : 11 ≤ lowestLevel s (axisOf (i / 4872)) (placeAt (s .places) (i % 4872)) → crossedSlot s i ≡ false
+    unfolding crossedSlot
+    slot-empty g = rw (lt-ltb (i % 4872) (length (s .places)) h, le-ltb (lowestLevel s (axisOf (i / 4872)) (placeAt (s .places) (i % 4872))) 11 g)
+
+    pub slot-odd : lowestLevel s (axisOf (i / 4872)) (placeAt (s .places) (i % 4872)) < 11 →
+        crossedSlot s i ≡
+        odd (s .isWet) (axisOf (i / 4872)) (placeAt (s .places) (i % 4872)) (lowestLevel s (axisOf (i / 4872)) (placeAt (s .places) (i % 4872)))
+    unfolding crossedSlot
+    slot-odd g = rw (lt-ltb (i % 4872) (length (s .places)) h, lt-ltb (lowestLevel s (axisOf (i / 4872)) (placeAt (s .places) (i % 4872))) 11 g)
+
+-- ---- an accepted survey
+
+module _ (tc tk : List ℕ) (clearance : Float) (ok : accepted tc tk clearance ≡ true) where
+  abbrev s : Survey
+  s = surveyOf tc tk clearance
+
+  no-refusal : surveyRefusal tc tk ≡ 0
+  no-refusal = accepted→ tc tk clearance (→true ok) .0
+
+  pub corners : Corners tk
+  corners = corners-known tc tk no-refusal
+
+  pub edges-law : Edged (surveyOf tc tk clearance)
+  edges-law = edged s (lawful tc tk clearance (→true ok))
+
+  pub few-places : length (surveyOf tc tk clearance .places) ≤ 4872
+  unfolding surveyOf
+  few-places = omega (arith, length-places tk, corners-few tc tk no-refusal)
+
+  -- the lowest level as the table has it
+  pub lowest-read : (lowest : List ℕ) → Lowest tc tk lowest → (n k i : ℕ) → i ≡ 4872 * n + k → n < 3 → k < length tk / 10 →
+      getD lowest i 0 ≡ lowestLevel (surveyOf tc tk clearance) (axisOf n) (placeAt (placesOf tk) k)
+  unfolding lowestLevel surveyOf
+  lowest-read lowest t n k i e g h = ap (λ j. getD lowest j 0) e ∙ t .entry n k g (omega (arith, length-places tk))
+
+  -- ---- the crossed slots, as the code finds them
+
+  module _ (lowest : List ℕ) (low : Lowest tc tk lowest) (i : ℕ) (h : i < 14616) where
+    level-is : i % 4872 < length tk / 10 → getD lowest i 0 ≡ lowestLevel (surveyOf tc tk clearance) (axisOf (i / 4872)) (placeAt (placesOf tk) (i % 4872))
+    level-is g = lowest-read lowest low (i / 4872) (i % 4872) i (omega arith) (omega arith) g
+
+    pub outside : length tk / 10 ≤ i % 4872 → crossedSlot (surveyOf tc tk clearance) i ≡ false
+    unfolding surveyOf
+    outside g = slot-outside s i (omega (arith, length-places tk))
+
+    pub empty : i % 4872 < length tk / 10 → 10 < getD lowest i 0 → crossedSlot (surveyOf tc tk clearance) i ≡ false
+    unfolding surveyOf
+    empty g o = slot-empty s i (omega (arith, length-places tk)) (omega (arith, level-is g))
+
+    module _ (g : i % 4872 < length tk / 10) (o : getD lowest i 0 ≤ 10) where
+      pub low-edge : T (isEdge (cellsOf tc) (axisOf (i / 4872)) (placeAt (placesOf tk) (i % 4872)) (getD lowest i 0))
+      unfolding surveyOf
+      low-edge =
+          subst (λ (l : ℕ). T (isEdge (cellsOf tc) (axisOf (i / 4872)) (placeAt (placesOf tk) (i % 4872)) l)) (sym (level-is g))
+          (lowest-edge s edges-law (axisOf (i / 4872)) (placeAt (placesOf tk) (i % 4872)) (omega (arith, level-is g)))
+
+      pub upper-known : T (any (same (move (axisOf (i / 4872)) (2 ^ getD lowest i 0) (placeAt (placesOf tk) (i % 4872)))) (placesOf tk))
+      unfolding surveyOf
+      upper-known = edges-law .upper-end (axisOf (i / 4872)) (placeAt (placesOf tk) (i % 4872)) (getD lowest i 0) low-edge
+
+      pub crossed-odd : crossedSlot (surveyOf tc tk clearance) i ≡
+          odd (wetAt (cornersOf tk) clearance) (axisOf (i / 4872)) (placeAt (placesOf tk) (i % 4872)) (getD lowest i 0)
+      unfolding surveyOf
+      crossed-odd =
+          slot-odd s i (omega (arith, length-places tk)) (omega (arith, level-is g)) ∙
+          ap (odd (wetAt (cornersOf tk) clearance) (axisOf (i / 4872)) (placeAt (placesOf tk) (i % 4872))) (sym (level-is g))

@@ -1,0 +1,103 @@
+-- A point by its slot: the odd edge that carries it, and its twin as the end of a climb from there.
+use Prim.Native.Nat.{ℕ, _+_, _*_, _/_, _%_, _≤_, _<_}
+use mathlib.Core.Path.{_≡_, refl, sym, ap, _∙_, subst}
+use mathlib.Core.Logic.{_⊎_, inl, inr}
+use mathlib.Core.Bool.{Bool, true, false}
+use mathlib.Core.List.{List}
+use native.Mathlib.Omega.{arith}
+use lib.Dec.{T}
+use lib.Ieee.{Float}
+use lib.ListN.{length, getD}
+use Rattle.base.specs.Grid.{Place, origin, Axis, X, axisOf}
+use Rattle.base.proofs.Tests.{→true, true→, below}
+use Rattle.base.proofs.Lists.{get-any}
+use Rattle.rules.specs.Survey.{cellsOf, cornersOf, wetAt, Survey}
+use Rattle.rules.specs.Edges.{CellEdge, edge, odd, pointEdges}
+use Rattle.rules.specs.Steps.{twin, edgeOf, numberElse, twinOf}
+use Rattle.rules.specs.Outputs.{accepted, surveyOf}
+use Rattle.records.specs.Keys.{placesOf}
+use Rattle.records.proofs.Keys.{length-places}
+use Rattle.edges.specs.Tables.{placeAt, lowestLevel, crossedSlot, slotsBelow, slotEdge, Lowest, Slots, Twins, OddEdge}
+use Rattle.edges.proofs.Levels.{Edged}
+use Rattle.edges.proofs.Points.{edge-of, point-edge, point-count, below-in}
+use Rattle.edges.proofs.Readings.{edges-law, few-places, outside, empty, low-edge, crossed-odd, lowest-read}
+use Rattle.edges.proofs.Numbering.{below-le}
+
+twin-def : (s : Survey) (v : ℕ) → twinOf s v ≡ numberElse s v (twin s 10 (edgeOf s v .axis) (edgeOf s v .low) (edgeOf s v .level))
+unfolding twinOf
+twin-def s v = refl
+
+pub slot-edge : (s : Survey) (i : ℕ) →
+    slotEdge s i ≡ edge (axisOf (i / 4872)) (placeAt (s .places) (i % 4872)) (lowestLevel s (axisOf (i / 4872)) (placeAt (s .places) (i % 4872)))
+unfolding slotEdge
+slot-edge s i = refl
+
+module _ (tc tk : List ℕ) (clearance : Float) (ok : accepted tc tk clearance ≡ true) (lowest : List ℕ) (low : Lowest tc tk lowest) where
+  -- a crossed slot is that of an odd edge
+  module _ (i : ℕ) (h : i < 14616) (t : T (crossedSlot (surveyOf tc tk clearance) i)) where
+    inside : i % 4872 < length tk / 10
+    inside = go (below (i % 4872) (length tk / 10))
+      where
+        go : (i % 4872 < length tk / 10) ⊎ (length tk / 10 ≤ i % 4872) → i % 4872 < length tk / 10
+        go (inl g) = g
+        go (inr g) = absurd (subst T (outside tc tk clearance ok lowest low i h g) t)
+
+    level-low : getD lowest i 0 ≤ 10
+    level-low = go (below 10 (getD lowest i 0))
+      where
+        go : (10 < getD lowest i 0) ⊎ (getD lowest i 0 ≤ 10) → getD lowest i 0 ≤ 10
+        go (inl g) = absurd (subst T (empty tc tk clearance ok lowest low i h inside g) t)
+        go (inr g) = g
+
+    pub slot-odd-edge : OddEdge tc tk clearance (axisOf (i / 4872)) (i % 4872) (getD lowest i 0)
+    slot-odd-edge = record {
+      inside = inside;
+      is-edge = low-edge tc tk clearance ok lowest low i h inside level-low;
+      is-odd = subst T (crossed-odd tc tk clearance ok lowest low i h inside level-low) t;
+    }
+
+  -- the slot of point v
+  module _ (slots : List ℕ) (at : Slots (surveyOf tc tk clearance) slots) (v : ℕ) (h : v < length (slotsBelow (surveyOf tc tk clearance) 14616)) where
+    pub slot-inside : getD slots v 0 < 14616
+    slot-inside = omega (arith, at .entry v h, below-in (surveyOf tc tk clearance) 14616 v h .0)
+
+    pub slot-crossed : T (crossedSlot (surveyOf tc tk clearance) (getD slots v 0))
+    slot-crossed = subst (λ i. T (crossedSlot (surveyOf tc tk clearance) i)) (sym (at .entry v h)) (below-in (surveyOf tc tk clearance) 14616 v h .1)
+
+    pub point-odd-edge : OddEdge tc tk clearance (axisOf (getD slots v 0 / 4872)) (getD slots v 0 % 4872) (getD lowest (getD slots v 0) 0)
+    point-odd-edge = slot-odd-edge (getD slots v 0) slot-inside slot-crossed
+
+    -- the level and the place as the tables have them
+    level-here : lowestLevel (surveyOf tc tk clearance) (axisOf (getD slots v 0 / 4872)) (placeAt (surveyOf tc tk clearance .places) (getD slots v 0 % 4872)) ≡ getD lowest (getD slots v 0) 0
+    unfolding surveyOf
+    level-here =
+        let i = getD slots v 0 in
+        let g = slot-inside in
+        sym (lowest-read tc tk clearance ok lowest low (i / 4872) (i % 4872) i (omega arith) (omega arith) (point-odd-edge .inside))
+
+    place-here : placeAt (surveyOf tc tk clearance .places) (getD slots v 0 % 4872) ≡ placeAt (placesOf tk) (getD slots v 0 % 4872)
+    unfolding surveyOf
+    place-here = refl
+
+    pub point-edge-is : (d : CellEdge) → getD (pointEdges (surveyOf tc tk clearance)) v d ≡ slotEdge (surveyOf tc tk clearance) (getD slots v 0)
+    point-edge-is d =
+        let s : Survey = surveyOf tc tk clearance in
+        let n = point-count s (edges-law tc tk clearance ok) (few-places tc tk clearance ok) in
+        get-any (pointEdges s) v d (edge X origin 0) (omega arith) ∙ sym (edge-of s v) ∙
+        point-edge s (edges-law tc tk clearance ok) (few-places tc tk clearance ok) v h ∙ ap (slotEdge s) (sym (at .entry v h))
+
+    pub twin-is : numberElse (surveyOf tc tk clearance) v
+        (twin (surveyOf tc tk clearance) 10 (axisOf (getD slots v 0 / 4872)) (placeAt (placesOf tk) (getD slots v 0 % 4872)) (getD lowest (getD slots v 0) 0)) ≡
+        twinOf (surveyOf tc tk clearance) v
+    twin-is =
+        let s : Survey = surveyOf tc tk clearance in
+        let i = getD slots v 0 in
+        let e : edgeOf s v ≡ edge (axisOf (i / 4872)) (placeAt (s .places) (i % 4872)) (lowestLevel s (axisOf (i / 4872)) (placeAt (s .places) (i % 4872))) =
+        point-edge s (edges-law tc tk clearance ok) (few-places tc tk clearance ok) v h ∙ ap (slotEdge s) (sym (at .entry v h)) ∙ slot-edge s i in
+        sym (twin-def s v ∙ ap (λ (x : CellEdge). numberElse s v (twin s 10 (x .axis) (x .low) (x .level))) e ∙
+        (λ j. numberElse s v (twin s 10 (axisOf (i / 4872)) (place-here j) (level-here j))))
+  pub points-few : length (pointEdges (surveyOf tc tk clearance)) ≤ 14616
+  points-few = omega (arith, point-count (surveyOf tc tk clearance) (edges-law tc tk clearance ok) (few-places tc tk clearance ok), below-le (surveyOf tc tk clearance) 14616)
+
+  pub points-slots : length (pointEdges (surveyOf tc tk clearance)) ≡ length (slotsBelow (surveyOf tc tk clearance) 14616)
+  points-slots = sym (point-count (surveyOf tc tk clearance) (edges-law tc tk clearance ok) (few-places tc tk clearance ok))

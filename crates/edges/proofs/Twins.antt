@@ -1,0 +1,199 @@
+-- The climb to a point's twin, turn by turn, of a survey that is accepted at a clearance.
+use Prim.Native.Nat.{ℕ, zero, suc, _+_, _-_, _*_, _/_, _^_, _≤_, _<_}
+use mathlib.Core.Path.{_≡_, refl, sym, ap, _∙_, subst}
+use mathlib.Core.Logic.{_⊎_, inl, inr}
+use mathlib.Core.Bool.{Bool, true, false, not, _||_, cond}
+use mathlib.Core.List.{List}
+use mathlib.Core.Option.{none, some}
+use native.Mathlib.Omega.{arith}
+use lib.Dec.{T}
+use lib.Ieee.{Float}
+use lib.ListN.{length, getD}
+use Rattle.base.specs.Lists.{any}
+use Rattle.base.specs.Grid.{Place, Axis, along, move, back, axisOf, same}
+use Rattle.base.proofs.Tests.{→true, true→, either, or-left, or-right}
+use Rattle.rules.specs.Survey.{cellsOf, cornersOf, wetAt, Survey}
+use Rattle.rules.specs.Edges.{edge, isEdge, divided, odd, carrier, pointOf}
+use Rattle.rules.specs.Steps.{isUpper, above, other, twin, numberElse}
+use Rattle.rules.specs.Outputs.{accepted, surveyOf}
+use Rattle.records.specs.Keys.{keyOf, placesOf, recordAt}
+use Rattle.records.proofs.Keys.{Bytes, Short, length-places}
+use Rattle.records.proofs.Found.{found-listed}
+use Rattle.edges.specs.Tables.{placeAt, lowestLevel, highestLevel, Lowest, Highest, OddEdge, Sought}
+use Rattle.edges.proofs.Find.{found}
+use Rattle.edges.proofs.Levels.{Edged, edge→levels, levels→edge}
+use Rattle.edges.proofs.Readings.{corners, edges-law, lowest-read}
+use Rattle.edges.proofs.Climbing.{upper-room, twin-none, twin-up, twin-found, else-none, else-some, even-halves, back-move}
+
+-- The other half of an even edge above an odd one is an odd edge.
+module _ (s : Survey) (laws : Edged s) (a : Axis) (p : Place) (l : ℕ) (t : T (isEdge (s .cells) a p l)) (o : T (odd (s .isWet) a p l)) where
+  pub other-odd : T (isEdge (s .cells) a (above a p l) (suc l)) → odd (s .isWet) a (above a p l) (suc l) ≡ false →
+      T (isEdge (s .cells) a (other a p l) l) × T (odd (s .isWet) a (other a p l) l)
+  unfolding divided
+  other-odd = go (isUpper a p l) (upper-room a p l)
+    where
+      go : (u : Bool) → (u ≡ true → 2 ^ l ≤ along a p) → T (isEdge (s .cells) a (cond u (back a (2 ^ l) p) p) (suc l)) →
+          odd (s .isWet) a (cond u (back a (2 ^ l) p) p) (suc l) ≡ false →
+          T (isEdge (s .cells) a (cond u (back a (2 ^ l) p) (move a (2 ^ l) p)) l) × T (odd (s .isWet) a (cond u (back a (2 ^ l) p) (move a (2 ^ l) p)) l)
+      go true r h e =
+          let q = back a (2 ^ l) p in
+          let m : move a (2 ^ l) q ≡ p = back-move a (2 ^ l) p (r refl) in
+          let upper : T (isEdge (s .cells) a (move a (2 ^ l) q) l) = subst (λ (x : Place). T (isEdge (s .cells) a x l)) (sym m) t in
+          (laws .halves a q l h (or-right (isEdge (s .cells) a q l) (isEdge (s .cells) a (move a (2 ^ l) q) l) upper) .0,
+          →true (sym (even-halves (s .isWet) a q l e) ∙ ap (λ (x : Place). odd (s .isWet) a x l) m ∙ true→ (odd (s .isWet) a p l) o))
+      go false r h e =
+          (laws .halves a p l h (or-left (isEdge (s .cells) a p l) (isEdge (s .cells) a (move a (2 ^ l) p) l) t) .1,
+          →true (even-halves (s .isWet) a p l e ∙ true→ (odd (s .isWet) a p l) o))
+
+-- how far the climb from record k₀ and level l₀ has come
+pub record Climbed (tc tk : List ℕ) (clearance : Float) (a : Axis) (k₀ l₀ k l : ℕ) : Type 0 where
+  pub odd-edge : OddEdge tc tk clearance a k l
+  pub left : ℕ
+  pub enough : 10 ≤ left + l
+  pub same-twin : twin (surveyOf tc tk clearance) left a (placeAt (placesOf tk) k) l ≡ twin (surveyOf tc tk clearance) 10 a (placeAt (placesOf tk) k₀) l₀
+
+module _ (tc tk : List ℕ) (clearance : Float) (ok : accepted tc tk clearance ≡ true) where
+  abbrev s : Survey
+  s = surveyOf tc tk clearance
+
+  abbrev at : ℕ → Place
+  at k = placeAt (placesOf tk) k
+
+  pub highest-read : (highest : List ℕ) → Highest tc tk highest → (n k i : ℕ) → i ≡ 4872 * n + k → n < 3 → k < length tk / 10 →
+      getD highest i 0 ≡ highestLevel (surveyOf tc tk clearance) (axisOf n) (placeAt (placesOf tk) k)
+  unfolding highestLevel surveyOf
+  highest-read highest t n k i e g h = ap (λ j. getD highest j 0) e ∙ t .entry n k g (omega (arith, length-places tk))
+
+  -- ---- a search for an edge
+
+  module _ (b : Bytes tk) (a : Axis) (p : Place) (l key k : ℕ) (e : key ≡ keyOf p) (r : k ≡ recordAt tk key) where
+    listed-inside : T (any (same p) (placesOf tk)) → k < length tk / 10
+    listed-inside t = omega (arith, found tk b (corners tc tk clearance ok .rises) p t .0, r, ap (recordAt tk) e)
+
+    pub nowhere : length tk / 10 ≤ k → isEdge (cellsOf tc) a p l ≡ false
+    unfolding surveyOf
+    nowhere h = go (either (isEdge (cellsOf tc) a p l))
+      where
+        go : T (isEdge (cellsOf tc) a p l) ⊎ (isEdge (cellsOf tc) a p l ≡ false) → isEdge (cellsOf tc) a p l ≡ false
+        go (inl t) = absurd (omega (arith, listed-inside (edges-law tc tk clearance ok .lower-end a p l t)))
+        go (inr f) = f
+
+    pub at-place : Short p → k < length tk / 10 → placeAt (placesOf tk) k ≡ p
+    at-place fits h =
+        let q : k ≡ recordAt tk (keyOf p) = r ∙ ap (recordAt tk) e in
+        ap at q ∙ found tk b (corners tc tk clearance ok .rises) p (found-listed tk b p fits (omega arith)) .1
+
+  -- at a record, an edge is there just between the two levels of the tables
+  module _ (lowest highest : List ℕ) (low : Lowest tc tk lowest) (high : Highest tc tk highest) (n k l : ℕ) (g : n < 3) (h : k < length tk / 10) where
+    pub edge-levels : T (isEdge (cellsOf tc) (axisOf n) (placeAt (placesOf tk) k) l) → (getD lowest (4872 * n + k) 0 ≤ l) × (l ≤ getD highest (4872 * n + k) 0)
+    unfolding surveyOf
+    edge-levels t =
+        let v = edge→levels s (edges-law tc tk clearance ok) (axisOf n) (at k) l t in
+        (omega (arith, v .0, lowest-read tc tk clearance ok lowest low n k (4872 * n + k) refl g h),
+        omega (arith, v .1, highest-read highest high n k (4872 * n + k) refl g h))
+
+    pub levels-edge : getD lowest (4872 * n + k) 0 ≤ l → l ≤ getD highest (4872 * n + k) 0 → T (isEdge (cellsOf tc) (axisOf n) (placeAt (placesOf tk) k) l)
+    unfolding surveyOf
+    levels-edge u v =
+        levels→edge s (edges-law tc tk clearance ok) (axisOf n) (at k) l
+        (omega (arith, lowest-read tc tk clearance ok lowest low n k (4872 * n + k) refl g h))
+        (omega (arith, highest-read highest high n k (4872 * n + k) refl g h))
+
+    levels-miss : (l < getD lowest (4872 * n + k) 0) ⊎ (getD highest (4872 * n + k) 0 < l) → isEdge (cellsOf tc) (axisOf n) (placeAt (placesOf tk) k) l ≡ false
+    levels-miss o = go (either (isEdge (cellsOf tc) (axisOf n) (placeAt (placesOf tk) k) l)) o
+      where
+        go : T (isEdge (cellsOf tc) (axisOf n) (at k) l) ⊎ (isEdge (cellsOf tc) (axisOf n) (at k) l ≡ false) →
+            (l < getD lowest (4872 * n + k) 0) ⊎ (getD highest (4872 * n + k) 0 < l) → isEdge (cellsOf tc) (axisOf n) (at k) l ≡ false
+        go (inl t) (inl w) = absurd (omega (arith, edge-levels t .0))
+        go (inl t) (inr w) = absurd (omega (arith, edge-levels t .1))
+        go (inr f) w = f
+
+    pub sought-miss : (p : Place) → placeAt (placesOf tk) k ≡ p → (l < getD lowest (4872 * n + k) 0) ⊎ (getD highest (4872 * n + k) 0 < l) →
+        Sought tc tk (axisOf n) p l (length tk / 10)
+    sought-miss p e o = record { found = λ x. absurd (omega arith); none = λ x. ap (λ q. isEdge (cellsOf tc) (axisOf n) q l) (sym e) ∙ levels-miss o }
+
+    pub sought-hit : (p : Place) → placeAt (placesOf tk) k ≡ p → getD lowest (4872 * n + k) 0 ≤ l → l ≤ getD highest (4872 * n + k) 0 → Sought tc tk (axisOf n) p l k
+    sought-hit p e u v = record {
+      found = λ x. (subst (λ q. T (isEdge (cellsOf tc) (axisOf n) q l)) e (levels-edge u v), e);
+      none = λ x. absurd (omega arith);
+    }
+
+  -- ---- the climb
+
+  module _ (a : Axis) (k₀ l₀ k l m r : ℕ) (v : ℕ) (c : Climbed tc tk clearance a k₀ l₀ k l) (q : m ≡ suc l) (f : Sought tc tk a (above a (placeAt (placesOf tk) k) l) m r) where
+    -- no cell has an edge above
+    pub climb-ends : length tk / 10 ≤ r → v ≡ numberElse (surveyOf tc tk clearance) v (twin (surveyOf tc tk clearance) 10 a (placeAt (placesOf tk) k₀) l₀)
+    unfolding surveyOf
+    climb-ends h =
+        sym (ap (numberElse s v) (sym (c .same-twin) ∙ twin-none s (c .left) a (at k) l (ap (isEdge (cellsOf tc) a (above a (at k) l)) (sym q) ∙ f .none h)) ∙ else-none s v)
+
+    module _ (h : r < length tk / 10) where
+      above-edge : T (isEdge (cellsOf tc) a (above a (at k) l) (suc l))
+      above-edge = subst (λ (j : ℕ). T (isEdge (cellsOf tc) a (above a (at k) l) j)) q (f .found h .0)
+
+      pub above-level : m ≤ 10
+      unfolding surveyOf
+      above-level = omega (arith, q, edges-law tc tk clearance ok .shallow a (above a (at k) l) (suc l) above-edge)
+
+      pub above-upper-listed : T (any (same (move a (2 ^ m) (placeAt (placesOf tk) r))) (placesOf tk))
+      unfolding surveyOf
+      above-upper-listed =
+          edges-law tc tk clearance ok .upper-end a (at r) m (subst (λ (x : Place). T (isEdge (cellsOf tc) a x m)) (sym (f .found h .1)) (f .found h .0))
+
+      -- one turn of fuel is left
+      one-left : (j : ℕ) × (c .left ≡ suc j) × (10 ≤ j + m)
+      one-left = go (c .left) refl
+        where
+          go : (n : ℕ) → c .left ≡ n → (j : ℕ) × (c .left ≡ suc j) × (10 ≤ j + m)
+          go zero e = absurd (omega (arith, c .enough, above-level, q))
+          go (suc j) e = (j, e, omega (arith, c .enough, q))
+
+      odd-above : odd (wetAt (cornersOf tk) clearance) a (at r) m ≡ odd (wetAt (cornersOf tk) clearance) a (above a (at k) l) (suc l)
+      odd-above = λ i. odd (wetAt (cornersOf tk) clearance) a (f .found h .1 i) (q i)
+
+      -- the edge above is odd: on from there
+      pub climb-on : odd (wetAt (cornersOf tk) clearance) a (placeAt (placesOf tk) r) m ≡ true → Climbed tc tk clearance a k₀ l₀ r m
+      unfolding surveyOf
+      climb-on o =
+          let j = one-left in
+          record {
+            odd-edge = record {
+              inside = h;
+              is-edge = subst (λ (x : Place). T (isEdge (cellsOf tc) a x m)) (sym (f .found h .1)) (f .found h .0);
+              is-odd = →true o;
+            };
+            left = j .0;
+            enough = j .2;
+            same-twin =
+                (λ i. twin s (j .0) a (f .found h .1 i) (q i)) ∙
+                sym (twin-up s (j .0) a (at k) l (true→ (isEdge (cellsOf tc) a (above a (at k) l) (suc l)) above-edge) (sym odd-above ∙ o)) ∙
+                ap (λ (n : ℕ). twin s n a (at k) l) (sym (j .1)) ∙ c .same-twin;
+          }
+
+      -- it is even: down its other half
+      module _ (b : Bytes tk) (o : odd (wetAt (cornersOf tk) clearance) a (placeAt (placesOf tk) r) m ≡ false) (w : ℕ) (z : w ≡ recordAt tk (keyOf (other a (placeAt (placesOf tk) k) l))) where
+        other-is : T (isEdge (cellsOf tc) a (other a (at k) l) l) × T (odd (wetAt (cornersOf tk) clearance) a (other a (at k) l) l)
+        unfolding surveyOf
+        other-is = other-odd s (edges-law tc tk clearance ok) a (at k) l (c .odd-edge .is-edge) (c .odd-edge .is-odd) above-edge (sym odd-above ∙ o)
+
+        other-found : (w < length tk / 10) × (at w ≡ other a (at k) l)
+        unfolding surveyOf
+        other-found =
+            let u = found tk b (corners tc tk clearance ok .rises) (other a (at k) l) (edges-law tc tk clearance ok .lower-end a (other a (at k) l) l (other-is .0)) in
+            (omega (arith, u .0, z), ap at z ∙ u .1)
+
+        pub other-edge : OddEdge tc tk clearance a w l
+        other-edge = record {
+          inside = other-found .0;
+          is-edge = subst (λ (x : Place). T (isEdge (cellsOf tc) a x l)) (sym (other-found .1)) (other-is .0);
+          is-odd = subst (λ (x : Place). T (odd (wetAt (cornersOf tk) clearance) a x l)) (sym (other-found .1)) (other-is .1);
+        }
+
+        pub climb-turns : pointOf (surveyOf tc tk clearance) (edge a (placeAt (placesOf tk) w) l) ≡
+            numberElse (surveyOf tc tk clearance) v (twin (surveyOf tc tk clearance) 10 a (placeAt (placesOf tk) k₀) l₀)
+        unfolding surveyOf
+        climb-turns =
+            let j = one-left in
+            ap (λ (x : Place). pointOf s (edge a x l)) (other-found .1) ∙ sym (else-some s v a (other a (at k) l) l) ∙
+            ap (numberElse s v) (sym (twin-found s (j .0) a (at k) l (true→ (isEdge (cellsOf tc) a (above a (at k) l) (suc l)) above-edge) (sym odd-above ∙ o)) ∙
+            ap (λ (n : ℕ). twin s n a (at k) l) (sym (j .1)) ∙ c .same-twin)

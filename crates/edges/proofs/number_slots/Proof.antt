@@ -1,0 +1,102 @@
+use Rattle.edges.proofs.Numbering.{Numbered, number-none, number-next, numbers-done, slots-done, count-done}
+use Rattle.edges.proofs.Readings.{edges-law, few-places}
+use Rattle.rules.specs.Outputs.{surveyOf}
+use Prim.Native.Nat.{ℕ, _+_, _-_, _≤_}
+use mathlib.Core.Path.{_≡_, sym, ap, _∙_}
+use native.Mathlib.Omega.{arith}
+use borrow.Author.Needs.{needs}
+use Rattle.edges.proofs.number_slots.Statement.{statement}
+use Rattle.edges.proofs.number_slots.Tie as tie
+use Rattle.edges.proofs.number_slots.Reads as reads
+use Rattle.edges.proofs.number_slots.Lts as lts
+use Rattle.edges.proofs.enter.Reads as enter-reads
+use Rattle.edges.proofs.is_crossed.Reads as is-crossed-reads
+
+abbrev Inv-loop : tie.InvT-loop
+Inv-loop cells corners clearance wets lowest numbers₀ slots₀ n₀ slot₀ numbers slots n slot = Numbered (surveyOf cells corners clearance) numbers slots n slot
+
+abbrev μ-loop : tie.MeasureT-loop
+μ-loop cells corners clearance wets lowest numbers₀ slots₀ n₀ slot₀ numbers slots n slot = 14616 - slot
+
+-- src/lib.rt:224:5
+loop-holds : tie.Need-loop-holds Inv-loop μ-loop
+loop-holds c =
+    let s = c .before .before .before .before .before .before in
+    number-none _ _ _ (s .pre .1 .1 .1 .0) (s .pre .1 .1 .1 .1)
+
+-- src/lib.rt:225:25
+cast-numbers : tie.Need-cast-numbers Inv-loop μ-loop
+cast-numbers c = search needs
+
+-- src/lib.rt:225:9
+mul-numbers : tie.Need-mul-numbers Inv-loop μ-loop
+mul-numbers c = search needs
+
+-- src/lib.rt:225:9
+slice-write-numbers : tie.Need-slice-write-numbers Inv-loop μ-loop
+slice-write-numbers c = search needs
+
+-- src/lib.rt:226:35
+is-crossed-requires : tie.Need-is-crossed-requires Inv-loop μ-loop
+is-crossed-requires c κs = search needs
+
+-- src/lib.rt:226:9
+enter-requires : tie.Need-enter-requires Inv-loop μ-loop
+enter-requires c κs = search needs
+
+-- src/lib.rt:227:9
+add-slot : tie.Need-add-slot Inv-loop μ-loop
+add-slot c = search needs
+
+-- src/lib.rt:224:5
+loop-less : tie.Need-loop-less Inv-loop μ-loop
+loop-less c = search needs
+
+-- src/lib.rt:224:5
+loop-again : tie.Need-loop-again Inv-loop μ-loop
+loop-again c =
+    let l = c .before .before .before .before .before .before in
+    let s = l .before .before .before .before .before .before .before in
+    number-next (surveyOf (s .args .cells .now) (s .args .corners .now) (s .args .clearance)) _ _ _ _ (l .loop .inv) (omega arith)
+    (c .before .before .before .is-crossed .result) (c .before .before .before .is-crossed .ensures) _ (c .before .before .enter .ensures .0) _ (c .before .before .enter .ensures .1)
+
+-- src/lib.rt:213:1
+same-length : tie.Need-same-length Inv-loop μ-loop
+same-length c = search needs
+
+-- src/lib.rt:213:1
+same-length-2 : tie.Need-same-length-2 Inv-loop μ-loop
+same-length-2 c = search needs
+
+-- src/lib.rt:213:1
+returns : tie.Need-returns Inv-loop μ-loop
+returns c =
+    let l = c .before in
+    let s = l .before .before .before .before .before .before .before in
+    let tc = s .args .cells .now in
+    let tk = s .args .corners .now in
+    let v = s .args .clearance in
+    let e : l .loop .slot ≡ 14616 = omega arith in
+    let laws = edges-law tc tk v (s .pre .0) in
+    let few = few-places tc tk v (s .pre .0) in
+    let t = surveyOf tc tk v in
+    (count-done t laws few _ _ _ _ (l .loop .inv) e, (numbers-done t laws few _ _ _ _ (l .loop .inv) e, slots-done t laws few _ _ _ _ (l .loop .inv) e))
+
+pub number-slots-spec : {M : Type 1} → statement M
+number-slots-spec =
+    tie.close
+    (tie.spec
+    Inv-loop
+    μ-loop
+    loop-holds
+    cast-numbers
+    mul-numbers
+    slice-write-numbers
+    is-crossed-requires
+    enter-requires
+    add-slot
+    loop-less
+    loop-again
+    same-length
+    same-length-2
+    returns)

@@ -1,0 +1,177 @@
+use Rattle.edges.proofs.TwinSlots.{slot-inside, slot-crossed, point-edge-is, points-few, points-slots}
+use Rattle.edges.specs.Tables.{slotsBelow}
+use Rattle.places.proofs.Stored.{floats, stored-length, written-turn, written-points}
+use Rattle.places.specs.Places.{asSpot, withSpot}
+use Rattle.rules.specs.Outputs.{surveyOf, written}
+use Rattle.rules.specs.Edges.{CellEdge, edge, Spot, spotOn, pointEdges}
+use Rattle.rules.specs.Survey.{cornersOf}
+use Rattle.base.specs.Grid.{X, origin}
+use mathlib.Core.List.{List}
+use lib.Seq.{take-all}
+use lib.ListN.{length, take}
+use Prim.Native.Nat.{ℕ, _+_, _-_, _*_, _≤_, _<_}
+use mathlib.Core.Path.{_≡_, refl, sym, ap, _∙_}
+use native.Mathlib.Omega.{arith}
+use borrow.Author.Needs.{needs}
+use Rattle.edges.proofs.write_points.Statement.{statement}
+use Rattle.edges.proofs.write_points.Tie as tie
+use Rattle.edges.proofs.write_points.Reads as reads
+use Rattle.edges.proofs.write_points.Lts as lts
+use Rattle.edges.proofs.slot_point.Reads as slot-point-reads
+use Rattle.places.proofs.put_point.Reads as put-point-reads
+
+abbrev Inv-loop : tie.InvT-loop
+Inv-loop cells corners clearance lowest slots n points₀ v₀ points v =
+    (v ≤ n) × (n ≤ 14616) × (length points ≡ length points₀) ×
+    (points ≡ written (floats (spotOn (cornersOf corners) clearance) (take v (pointEdges (surveyOf cells corners clearance)))) points₀)
+
+abbrev μ-loop : tie.MeasureT-loop
+μ-loop cells corners clearance lowest slots n points₀ v₀ points v = n - v
+
+-- src/lib.rt:430:5
+loop-holds : tie.Need-loop-holds Inv-loop μ-loop
+loop-holds c =
+    let s = c .before .before .before .before .before in
+    let tc = s .args .cells .now in
+    let tk = s .args .corners .now in
+    let x = s .args .clearance in
+    let low = s .pre .1 .0 in
+    let at = s .pre .1 .1 .0 in
+    let last = s .pre .1 .1 .1 in
+    let few = points-few tc tk x (s .pre .0) (s .args .lowest .now) low in
+    let same = points-slots tc tk x (s .pre .0) (s .args .lowest .now) low in
+    (omega arith, omega (arith, few, last .0), refl, refl)
+
+-- src/lib.rt:431:84
+mul-slot-point : tie.Need-mul-slot-point Inv-loop μ-loop
+mul-slot-point c = search needs
+
+-- src/lib.rt:431:84
+shared-slice-read-slot-point : tie.Need-shared-slice-read-slot-point Inv-loop μ-loop
+shared-slice-read-slot-point c =
+    let s = c .before .before .before .before .before .before .before .before .before in
+    let tc = s .args .cells .now in
+    let tk = s .args .corners .now in
+    let x = s .args .clearance in
+    let low = s .pre .1 .0 in
+    let at = s .pre .1 .1 .0 in
+    let last = s .pre .1 .1 .1 in
+    let few = points-few tc tk x (s .pre .0) (s .args .lowest .now) low in
+    let same = points-slots tc tk x (s .pre .0) (s .args .lowest .now) low in
+    omega (arith, at .size)
+
+-- src/lib.rt:431:84
+cast-slot-point : tie.Need-cast-slot-point Inv-loop μ-loop
+cast-slot-point c =
+    let s = c .before .before .before .before .before .before .before .before .before in
+    let tc = s .args .cells .now in
+    let tk = s .args .corners .now in
+    let x = s .args .clearance in
+    let low = s .pre .1 .0 in
+    let at = s .pre .1 .1 .0 in
+    let last = s .pre .1 .1 .1 in
+    let few = points-few tc tk x (s .pre .0) (s .args .lowest .now) low in
+    let same = points-slots tc tk x (s .pre .0) (s .args .lowest .now) low in
+    let l = c .before .before .before in
+    let h : l .loop .v < length (slotsBelow (surveyOf tc tk x) 14616) = omega (arith, same, last .0) in
+    omega (arith, slot-inside tc tk x (s .pre .0) (s .args .lowest .now) low (s .args .slots .now) at (l .loop .v) h)
+
+-- src/lib.rt:431:38
+slot-point-requires : tie.Need-slot-point-requires Inv-loop μ-loop
+slot-point-requires c κs =
+    let s = c .before .before .before .before .before .before .before .before .before in
+    let tc = s .args .cells .now in
+    let tk = s .args .corners .now in
+    let x = s .args .clearance in
+    let low = s .pre .1 .0 in
+    let at = s .pre .1 .1 .0 in
+    let last = s .pre .1 .1 .1 in
+    let few = points-few tc tk x (s .pre .0) (s .args .lowest .now) low in
+    let same = points-slots tc tk x (s .pre .0) (s .args .lowest .now) low in
+    let l = c .before .before .before in
+    let h : l .loop .v < length (slotsBelow (surveyOf tc tk x) 14616) = omega (arith, same, last .0) in
+    (s .pre .0, (low, (slot-inside tc tk x (s .pre .0) (s .args .lowest .now) low (s .args .slots .now) at (l .loop .v) h, slot-crossed tc tk x (s .pre .0) (s .args .lowest .now) low (s .args .slots .now) at (l .loop .v) h)))
+
+-- src/lib.rt:431:9
+put-point-requires : tie.Need-put-point-requires Inv-loop μ-loop
+put-point-requires c κs =
+    let s = c .before .before .before .before .before .before .before .before .before .before in
+    let tc = s .args .cells .now in
+    let tk = s .args .corners .now in
+    let x = s .args .clearance in
+    let low = s .pre .1 .0 in
+    let at = s .pre .1 .1 .0 in
+    let last = s .pre .1 .1 .1 in
+    let few = points-few tc tk x (s .pre .0) (s .args .lowest .now) low in
+    let same = points-slots tc tk x (s .pre .0) (s .args .lowest .now) low in
+    omega (arith, last .1)
+
+-- src/lib.rt:432:9
+add-v : tie.Need-add-v Inv-loop μ-loop
+add-v c = search needs
+
+-- src/lib.rt:430:5
+loop-less : tie.Need-loop-less Inv-loop μ-loop
+loop-less c = search needs
+
+-- src/lib.rt:430:5
+loop-again : tie.Need-loop-again Inv-loop μ-loop
+loop-again c =
+    let s = c .before .before .before .before .before .before .before .before .before .before .before .before .before in
+    let tc = s .args .cells .now in
+    let tk = s .args .corners .now in
+    let x = s .args .clearance in
+    let low = s .pre .1 .0 in
+    let at = s .pre .1 .1 .0 in
+    let last = s .pre .1 .1 .1 in
+    let few = points-few tc tk x (s .pre .0) (s .args .lowest .now) low in
+    let same = points-slots tc tk x (s .pre .0) (s .args .lowest .now) low in
+    let l = c .before .before .before .before .before .before .before in
+    let h : l .loop .v < length (slotsBelow (surveyOf tc tk x) 14616) = omega (arith, same, last .0) in
+    let f : CellEdge → Spot = spotOn (cornersOf tk) x in
+    let es : List CellEdge = pointEdges (surveyOf tc tk x) in
+    let d : CellEdge = edge X origin 0 in
+    let p = c .before .before .before .slot-point in
+    let e = c .before .before .put-point .ensures in
+    (omega arith, omega arith, ap length e ∙ stored-length (l .loop .points) (l .loop .v) (asSpot (p .result)) ∙ l .loop .inv .2,
+    e ∙ ap (withSpot (l .loop .points) (l .loop .v)) (p .ensures ∙ ap f (sym (point-edge-is tc tk x (s .pre .0) (s .args .lowest .now) low (s .args .slots .now) at (l .loop .v) h d))) ∙
+    written-turn f es (l .loop .v) d (s .args .points .now) (l .loop .points) (omega (arith, last .0)) (omega (arith, last .0, last .1)) (l .loop .inv .3))
+
+-- src/lib.rt:422:1
+same-length : tie.Need-same-length Inv-loop μ-loop
+same-length c = search needs
+
+-- src/lib.rt:422:1
+returns : tie.Need-returns Inv-loop μ-loop
+returns c =
+    let s = c .before .before .before .before .before .before .before in
+    let tc = s .args .cells .now in
+    let tk = s .args .corners .now in
+    let x = s .args .clearance in
+    let low = s .pre .1 .0 in
+    let at = s .pre .1 .1 .0 in
+    let last = s .pre .1 .1 .1 in
+    let few = points-few tc tk x (s .pre .0) (s .args .lowest .now) low in
+    let same = points-slots tc tk x (s .pre .0) (s .args .lowest .now) low in
+    let l = c .before in
+    let es : List CellEdge = pointEdges (surveyOf tc tk x) in
+    written-points tc tk x (s .args .points .now) (l .loop .points)
+    (l .loop .inv .3 ∙ ap (λ (fs : List CellEdge). written (floats (spotOn (cornersOf tk) x) fs) (s .args .points .now)) (take-all (l .loop .v) es (omega (arith, last .0))))
+
+pub write-points-spec : {M : Type 1} → statement M
+write-points-spec =
+    tie.close
+    (tie.spec
+    Inv-loop
+    μ-loop
+    loop-holds
+    mul-slot-point
+    shared-slice-read-slot-point
+    cast-slot-point
+    slot-point-requires
+    put-point-requires
+    add-v
+    loop-less
+    loop-again
+    same-length
+    returns)

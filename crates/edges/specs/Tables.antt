@@ -1,0 +1,128 @@
+-- The tables in which drawing and the enquiry look edges and points up, and what each of them holds, of a survey at a clearance.
+-- A slot stands for an axis and a corner record: 4,872 slots for each axis, so slot 4,872 n + k is for record k on the axis with number n.
+use Prim.Native.Nat.{ℕ, zero, suc, _+_, _*_, _/_, _%_, _≤_, _<_, min, max}
+use mathlib.Core.Path.{_≡_}
+use mathlib.Core.Bool.{Bool, false, _&&_, cond}
+use mathlib.Core.List.{List, [], _∷_, _++_}
+use lib.Dec.{T, eqb, ltb}
+use lib.ListN.{length, getD}
+use lib.Ieee.{Float}
+use Rattle.base.specs.Lists.{keep, collect, count, bit}
+use Rattle.base.specs.Grid.{Place, origin, Axis, axes, axisNumber, axisOf, same}
+use Rattle.rules.specs.Survey.{Cell, cellsOf, cornersOf, wetAt, Survey}
+use Rattle.rules.specs.Edges.{CellEdge, edge, isEdge, odd}
+use Rattle.rules.specs.Steps.{twinOf}
+use Rattle.rules.specs.Closing.{cellEdgesOn}
+use Rattle.records.specs.Keys.{placesOf}
+
+-- ---- levels
+
+-- the twelve edges of a cell, and the edges of cells, one cell after the other
+abbrev pub cellEdges : Cell → List CellEdge
+cellEdges c = collect (cellEdgesOn c) axes
+
+unfoldable pub edgesOf : List Cell → List CellEdge
+edgesOf cells = collect cellEdges cells
+
+-- the edge starts at p on axis a
+abbrev pub startsAt : Axis → Place → CellEdge → Bool
+startsAt a p e = same p (e .low) && eqb (axisNumber a) (axisNumber (e .axis))
+
+-- the lowest and the highest level of the edges on a list that start at p on axis a; 11 and 0 where none does
+unfoldable pub lowestIn : List CellEdge → Axis → Place → ℕ
+lowestIn [] a p = 11
+lowestIn (e ∷ es) a p = let r = lowestIn es a p in cond (startsAt a p e) (min (e .level) r) r
+
+unfoldable pub highestIn : List CellEdge → Axis → Place → ℕ
+highestIn [] a p = 0
+highestIn (e ∷ es) a p = let r = highestIn es a p in cond (startsAt a p e) (max (e .level) r) r
+
+-- the same of all edges
+unfoldable pub lowestLevel : Survey → Axis → Place → ℕ
+unfolding edgesOf lowestIn
+lowestLevel s a p = lowestIn (edgesOf (s .cells)) a p
+
+unfoldable pub highestLevel : Survey → Axis → Place → ℕ
+unfolding edgesOf highestIn
+highestLevel s a p = highestIn (edgesOf (s .cells)) a p
+
+-- ---- slots
+
+-- the place of corner record k
+abbrev pub placeAt : List Place → ℕ → Place
+placeAt places k = getD places k origin
+
+-- the edge of the lowest level that starts at p on axis a is crossed: it is there, and it is odd
+unfoldable pub crossedAt : Survey → Axis → Place → Bool
+unfolding lowestLevel odd
+crossedAt s a p = ltb (lowestLevel s a p) 11 && odd (s .isWet) a p (lowestLevel s a p)
+
+-- the slot is of a corner record, and the edge of the lowest level there is crossed
+unfoldable pub crossedSlot : Survey → ℕ → Bool
+unfolding crossedAt
+crossedSlot s i = ltb (i % 4872) (length (s .places)) && crossedAt s (axisOf (i / 4872)) (placeAt (s .places) (i % 4872))
+
+-- the crossed slots below a slot, rising
+unfoldable pub slotsBelow : Survey → ℕ → List ℕ
+unfolding crossedSlot
+slotsBelow s i = keep (crossedSlot s) (count 0 i)
+
+-- the edge of the lowest level at a slot
+unfoldable pub slotEdge : Survey → ℕ → CellEdge
+unfolding lowestLevel
+slotEdge s i =
+    let a = axisOf (i / 4872) in
+    let p = placeAt (s .places) (i % 4872) in
+    edge a p (lowestLevel s a p)
+
+-- ---- the tables
+
+-- a number for each slot: f of its axis and place
+pub record Tabled (places : List Place) (f : Axis → Place → ℕ) (table : List ℕ) : Type 0 where
+  pub size : length table ≡ 14616
+  pub entry : (n k : ℕ) → n < 3 → k < length places → getD table (4872 * n + k) 0 ≡ f (axisOf n) (placeAt places k)
+
+-- the levels of the edges on a list
+pub record Levels (places : List Place) (es : List CellEdge) (lowest highest : List ℕ) : Type 0 where
+  pub low : Tabled places (lowestIn es) lowest
+  pub high : Tabled places (highestIn es) highest
+
+-- of the edges of all cells
+abbrev pub Lowest : List ℕ → List ℕ → List ℕ → Type 0
+Lowest tc tk table = Tabled (placesOf tk) (lowestIn (edgesOf (cellsOf tc))) table
+
+abbrev pub Highest : List ℕ → List ℕ → List ℕ → Type 0
+Highest tc tk table = Tabled (placesOf tk) (highestIn (edgesOf (cellsOf tc))) table
+
+-- 1 for each corner record that is wet at the clearance, else 0
+pub record Wets (tk : List ℕ) (clearance : Float) (table : List ℕ) : Type 0 where
+  pub size : length table ≡ 4872
+  pub entry : (k : ℕ) → k < length tk / 10 → getD table k 0 ≡ bit (wetAt (cornersOf tk) clearance (placeAt (placesOf tk) k))
+
+-- for each slot, how many crossed slots come before it
+pub record Numbers (s : Survey) (table : List ℕ) : Type 0 where
+  pub size : length table ≡ 14616
+  pub entry : (i : ℕ) → i < 14616 → getD table i 0 ≡ length (slotsBelow s i)
+
+-- for each point, its slot
+pub record Slots (s : Survey) (table : List ℕ) : Type 0 where
+  pub size : length table ≡ 14616
+  pub entry : (v : ℕ) → v < length (slotsBelow s 14616) → getD table v 0 ≡ getD (slotsBelow s 14616) v 0
+
+-- for each point, its twin
+pub record Twins (s : Survey) (table : List ℕ) : Type 0 where
+  pub size : length table ≡ 14616
+  pub entry : (v : ℕ) → v < length (slotsBelow s 14616) → getD table v 0 ≡ twinOf s v
+
+-- ---- edges by corner record
+
+-- the edge of level l that starts at corner record k on axis a is there, and is odd
+pub record OddEdge (tc tk : List ℕ) (clearance : Float) (a : Axis) (k l : ℕ) : Type 0 where
+  pub inside : k < length tk / 10
+  pub is-edge : T (isEdge (cellsOf tc) a (placeAt (placesOf tk) k) l)
+  pub is-odd : T (odd (wetAt (cornersOf tk) clearance) a (placeAt (placesOf tk) k) l)
+
+-- What a search for the edge of level l from p on gives: the corner record there, or the number of records where no cell has the edge.
+pub record Sought (tc tk : List ℕ) (a : Axis) (p : Place) (l r : ℕ) : Type 0 where
+  pub found : r < length tk / 10 → T (isEdge (cellsOf tc) a p l) × (placeAt (placesOf tk) r ≡ p)
+  pub none : length tk / 10 ≤ r → isEdge (cellsOf tc) a p l ≡ false

@@ -1,0 +1,5 @@
+pub mod Slices
+pub mod Held
+pub mod Sweep
+pub mod Round
+pub mod Blocks

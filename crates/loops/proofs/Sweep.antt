@@ -1,0 +1,262 @@
+-- The sweep over the points of a leaf, one after the other and in blocks.
+--     in-points, of-points            the points that the face steps meet, by test and by list
+--     fans-append, fan-none, fan-loop      the triangles of the loops that start at some points
+--     swept-none, swept-more          no point, and points after others
+--     swept-past, swept-row           a point without a mark, and a row of such points
+--     begins, drawn                   from the trace of the leaf to its triangles and the empty trace
+-- Assumes nothing.
+use mathlib.Core.Path.{_≡_, refl, sym, ap, _∙_, subst}
+use mathlib.Core.Bool.{Bool, true, false, _||_, cond, false≢true}
+use mathlib.Core.List.{List, [], _∷_, _++_, append-nil, append-assoc}
+use Prim.Native.Nat.{ℕ, zero, suc, _+_, _*_, _-_, _≤_, _<_}
+use native.Mathlib.Nat.{zero-add, add-zero, suc-add, mul-le-mul-left}
+use native.Mathlib.Omega.{arith}
+use native.Mathlib.Decide.{ℕ-discrete}
+use lib.Dec.{eqb}
+use lib.ListN.{length, getD, length-append}
+use lib.Seq.{sets}
+use Rattle.base.specs.Lists.{bit, first, keep, collect, count}
+use Rattle.base.proofs.Tests.{→true, true→}
+use Rattle.base.proofs.Lists.{in-keep, keep-in, count-in}
+use Rattle.base.proofs.Counts.{often, in-often, often-in, length-count}
+use Rattle.rules.specs.Steps.{Step, Triangle, met, until, loop, lowestFirst, loops, fanFrom, fan}
+use Rattle.rules.specs.Outputs.{numbers}
+use Rattle.trace.specs.Trace.{Trace, trace, Traced, meets, endFrom}
+use Rattle.loops.specs.Loops.{Leaf, triangles, into, Drawn}
+use Rattle.loops.specs.Sweep.{Progress, progress, after, Left, fans, Swept}
+use Rattle.loops.proofs.Slices.{sets-append, sets-into, length-numbers, numbers-append}
+
+-- a point that no step meets is left by none
+unmet-end : (ss : List Step) (v : ℕ) → meets ss v ≡ false → endFrom ss v ≡ 65535
+unmet-end [] v e = refl
+unmet-end (t ∷ ss) v e = go (eqb v (t .0)) (eqb v (t .1)) e (unmet-end ss v)
+  where
+    go : (a b : Bool) → (a || b) || meets ss v ≡ false → (meets ss v ≡ false → endFrom ss v ≡ 65535)
+        → (cond a t (first (λ t. eqb v (t .0)) (v, 65535) ss)) .1 ≡ 65535
+    go true b q ih = absurd (false≢true (sym q))
+    go false true q ih = absurd (false≢true (sym q))
+    go false false q ih = ih q
+
+-- ---- the points of the leaf
+
+module _ {twins : List ℕ} (l : Leaf twins) where
+  pub in-points : (v : ℕ) → meets (l .steps) v ≡ true → 1 ≤ often v (met (l .steps) (l .points))
+  in-points v e =
+      in-often v (met (l .steps) (l .points))
+      (keep-in (meets (l .steps)) (count 0 (l .points)) v (count-in (l .points) 0 v (omega arith) (omega (arith, l .inside v e))) (→true e))
+
+  pub of-points : (v : ℕ) → 1 ≤ often v (met (l .steps) (l .points)) → meets (l .steps) v ≡ true
+  of-points v h =
+      true→ (meets (l .steps) v) (in-keep (meets (l .steps)) (count 0 (l .points)) v (often-in v (met (l .steps) (l .points)) h) .1)
+
+  -- the way onward leads from met points to met points
+  pub met-on : (v : ℕ) → meets (l .steps) v ≡ true → meets (l .steps) (after l v) ≡ true
+  met-on v e = of-points (after l v) (l .permutes .stays v (in-points v e))
+
+  -- ---- triangles of the loops that start at some points
+
+  abbrev over : List ℕ → List Triangle
+  over vs = collect fan (loops (l .points) (after l) (keep (meets (l .steps)) vs))
+
+  over-append : (xs ys : List ℕ) → over (xs ++ ys) ≡ over xs ++ over ys
+  over-append [] ys = refl
+  over-append (x ∷ xs) ys = go (meets (l .steps) x) (over-append xs ys)
+    where
+      more : List ℕ → List (List ℕ)
+      more vs = loops (l .points) (after l) (keep (meets (l .steps)) vs)
+
+      starts : (b : Bool) → over (xs ++ ys) ≡ over xs ++ over ys
+          → collect fan (cond b (loop (l .points) (after l) x ∷ more (xs ++ ys)) (more (xs ++ ys)))
+          ≡ collect fan (cond b (loop (l .points) (after l) x ∷ more xs) (more xs)) ++ over ys
+      starts true ih =
+          let own = fan (loop (l .points) (after l) x) in
+          ap (λ (ts : List Triangle). own ++ ts) ih ∙ sym (append-assoc own (over xs) (over ys))
+      starts false ih = ih
+
+      go : (b : Bool) → over (xs ++ ys) ≡ over xs ++ over ys
+          → collect fan (loops (l .points) (after l) (cond b (x ∷ keep (meets (l .steps)) (xs ++ ys)) (keep (meets (l .steps)) (xs ++ ys))))
+          ≡ collect fan (loops (l .points) (after l) (cond b (x ∷ keep (meets (l .steps)) xs) (keep (meets (l .steps)) xs))) ++ over ys
+      go true ih = starts (lowestFirst (loop (l .points) (after l) x)) ih
+      go false ih = ih
+
+  count-append : (k j v : ℕ) → count v (k + j) ≡ count v k ++ count (v + k) j
+  count-append zero j v = rw (zero-add, add-zero)
+  count-append (suc k) j v = let e : v + suc k ≡ suc v + k = omega arith in rw (suc-add, e) (ap (λ (r : List ℕ). v ∷ r) (count-append k j (suc v)))
+
+  pub fans-append : (v k j : ℕ) → fans l v (k + j) ≡ fans l v k ++ fans l (v + k) j
+  fans-append v k j = ap over (count-append k j v) ∙ over-append (count v k) (count (v + k) j)
+
+  -- no loop starts at v
+  pub fan-none : (v : ℕ) → (meets (l .steps) v ≡ true → lowestFirst (loop (l .points) (after l) v) ≡ false) → fans l v 1 ≡ []
+  fan-none v h = go (meets (l .steps) v) refl
+    where
+      go : (b : Bool) → meets (l .steps) v ≡ b → collect fan (loops (l .points) (after l) (cond b (v ∷ []) [])) ≡ []
+      go true e = rw (h e)
+      go false e = refl
+
+  -- one does
+  pub fan-loop : (v : ℕ) → meets (l .steps) v ≡ true → lowestFirst (loop (l .points) (after l) v) ≡ true → fans l v 1 ≡ fan (loop (l .points) (after l) v)
+  fan-loop v m e = rw (m, e) (append-nil (fan (loop (l .points) (after l) v)))
+
+  pub fans-none : (k v : ℕ) → ((x : ℕ) → v ≤ x → meets (l .steps) x ≡ false) → fans l v k ≡ []
+  fans-none zero v h = refl
+  fans-none (suc k) v h = rw (h v (omega arith)) (fans-none k (suc v) (λ x i. h x (omega arith)))
+
+  -- ---- how many
+
+  pub until-few : (k : ℕ) (f : ℕ → ℕ) (v u c a : ℕ) → length (fanFrom c a (until k f v u)) ≤ k
+  until-few zero f v u c a = omega arith
+  until-few (suc k) f v u c a = go (eqb u v) (until-few k f v (f u) c u)
+    where
+      go : (b : Bool) → length (fanFrom c u (until k f v (f u))) ≤ k → length (fanFrom c a (cond b [] (u ∷ until k f v (f u)))) ≤ suc k
+      go true ih = omega arith
+      go false ih = omega arith
+
+  fan-few : (n v : ℕ) (f : ℕ → ℕ) → length (fan (loop n f v)) ≤ n
+  fan-few zero v f = omega arith
+  fan-few (suc n) v f = go (eqb (f v) v) (until-few n f v (f (f v)) v (f v))
+    where
+      go : (b : Bool) → length (fanFrom v (f v) (until n f v (f (f v)))) ≤ n → length (fan (v ∷ cond b [] (f v ∷ until n f v (f (f v))))) ≤ suc n
+      go true h = omega arith
+      go false h = omega arith
+
+  over-few : (vs : List ℕ) → length (over vs) ≤ length vs * l .points
+  over-few [] = omega arith
+  over-few (v ∷ vs) = go (meets (l .steps) v) (over-few vs)
+    where
+      others : List (List ℕ)
+      others = loops (l .points) (after l) (keep (meets (l .steps)) vs)
+
+      more : ℕ
+      more = length (over vs)
+
+      starts : (b : Bool) → more ≤ length vs * l .points
+          → length (collect fan (cond b (loop (l .points) (after l) v ∷ others) others)) ≤ suc (length vs) * l .points
+      starts true ih = rw length-append (omega (arith, fan-few (l .points) v (after l)))
+      starts false ih = omega arith
+
+      go : (b : Bool) → more ≤ length vs * l .points
+          → length (collect fan (loops (l .points) (after l) (cond b (v ∷ keep (meets (l .steps)) vs) (keep (meets (l .steps)) vs))))
+          ≤ suc (length vs) * l .points
+      go true ih = starts (lowestFirst (loop (l .points) (after l) v)) ih
+      go false ih = omega arith
+
+  pub fans-few : (v k : ℕ) → length (fans l v k) ≤ k * 14616
+  fans-few v k =
+      let few : length (fans l v k) ≤ k * l .points = subst (λ (j : ℕ). length (fans l v k) ≤ j * l .points) (length-count k v) (over-few (count v k)) in
+      omega (arith, few, mul-le-mul-left k (l .few))
+
+  -- ---- points passed
+
+  pub swept-none : (v : ℕ) (s : Progress) → Left l v s → Swept l v 0 s s
+  swept-none v s h =
+      record { left = subst (λ (u : ℕ). Left l u s) (sym (add-zero v)) h; fewer = λ x i e. e; counted = omega arith; wrote = refl }
+
+  pub swept-more : (v k j : ℕ) (s t u : Progress) → Swept l v k s t → Swept l (v + k) j t u → Swept l v (k + j) s u
+  swept-more v k j s t u p q = record {
+    left = let e : v + k + j ≡ v + (k + j) = omega arith in subst (λ (x : ℕ). Left l x u) e (q .left);
+    fewer = λ x i e. p .fewer x i (q .fewer x i e);
+    counted = rw (fans-append v k j, length-append) (omega (arith, p .counted, q .counted));
+    wrote =
+        q .wrote ∙ ap (λ (o : List ℕ). sets o (3 * t .count) (collect numbers (fans l (v + k) j))) (p .wrote)
+        ∙ ap (λ (at : ℕ). sets (sets (s .out) (3 * s .count) (collect numbers (fans l v k))) at (collect numbers (fans l (v + k) j))) at
+        ∙ sets-append (collect numbers (fans l v k)) (collect numbers (fans l (v + k) j)) (s .out) (3 * s .count)
+        ∙ ap (λ (ns : List ℕ). sets (s .out) (3 * s .count) ns) (sym both);
+  }
+    where
+      both : collect numbers (fans l v (k + j)) ≡ collect numbers (fans l v k) ++ collect numbers (fans l (v + k) j)
+      both = ap (collect numbers) (fans-append v k j) ∙ numbers-append (fans l v k) (fans l (v + k) j)
+
+      at : 3 * t .count ≡ 3 * s .count + length (collect numbers (fans l v k))
+      at = omega (arith, p .counted, length-numbers (fans l v k))
+
+  -- a point without a mark: none of its loop is left
+  pub swept-past : (v : ℕ) (s : Progress) → v < 14616 → Left l v s → getD (s .marks) v 0 ≡ 0 → Swept l v 1 s s
+  swept-past v s i h z = record {
+    left = record {
+      rest = h .rest;
+      held = h .held;
+      met = h .met;
+      stays = h .stays;
+      low = λ x e. beyond x e (ℕ-discrete x v);
+      passed = λ x m e b. h .passed x m e (omega arith);
+    };
+    fewer = λ x i e. e;
+    counted = rw none (omega arith);
+    wrote = rw none;
+  }
+    where
+      off : h .rest v ≡ false
+      off = go (h .rest v) (sym (h .held .mark v i) ∙ z)
+        where
+          go : (b : Bool) → bit b ≡ 0 → b ≡ false
+          go true e = absurd (omega arith)
+          go false e = refl
+
+      none : fans l v 1 ≡ []
+      none = fan-none v (λ m. h .passed v m off (omega arith))
+
+      beyond : (x : ℕ) → h .rest x ≡ true → Dec (x ≡ v) → v + 1 ≤ x
+      beyond x e (yes p) = absurd (false≢true (sym off ∙ ap (h .rest) (sym p) ∙ e))
+      beyond x e (no d) = omega (arith, h .low x e)
+
+  -- a row of such points
+  pub swept-row : (k v : ℕ) (s : Progress) → v + k ≤ 14616 → Left l v s → ((x : ℕ) → v ≤ x → x < v + k → getD (s .marks) x 0 ≡ 0) → Swept l v k s s
+  swept-row zero v s i h z = swept-none v s h
+  swept-row (suc k) v s i h z =
+      let one = swept-past v s (omega arith) h (z v (omega arith) (omega arith)) in
+      let rest = swept-row k (v + 1) s (omega arith) (one .left) (λ x a b. z x (omega arith) (omega arith)) in
+      let e : 1 + k ≡ suc k = omega arith in
+      subst (λ (j : ℕ). Swept l v j s s) e (swept-more v 1 k s s s one rest)
+
+  -- ---- the whole leaf
+
+  pub begins : (t : Trace) (out : List ℕ) (r : ℕ) → Traced (l .steps) t → Left l 0 (progress (t .nexts) (t .marks) out r)
+  begins t out r h = record {
+    rest = meets (l .steps);
+    held = record { nextsLong = h .sized .points; marksLong = h .sized .same; next = λ x i. h .next x i ∙ ended x (meets (l .steps) x) refl; mark = h .mark };
+    met = λ x e. e;
+    stays = met-on;
+    low = λ x e. omega arith;
+    passed = λ x e f b. absurd (false≢true (sym f ∙ e));
+  }
+    where
+      ended : (x : ℕ) (b : Bool) → meets (l .steps) x ≡ b → endFrom (l .steps) x ≡ cond b (endFrom (l .steps) x) 65535
+      ended x true e = refl
+      ended x false e = unmet-end (l .steps) x e
+
+  ends : (s : Progress) (blocks : List ℕ) → length blocks ≡ 128 → Left l 14616 s → Traced [] (trace (s .nexts) (s .marks) blocks)
+  ends s blocks b h = record {
+    sized = record { points = h .held .nextsLong; same = h .held .marksLong; groups = b };
+    within = λ x e. absurd (false≢true e);
+    next = λ x i. h .held .next x i ∙ ap (λ (u : Bool). cond u (endFrom (l .steps) x) 65535) (off x i (h .rest x) refl);
+    mark = λ x i. h .held .mark x i ∙ ap bit (off x i (h .rest x) refl);
+    block = λ x i e. absurd (omega (arith, h .held .mark x i ∙ ap bit (off x i (h .rest x) refl)));
+  }
+    where
+      off : (x : ℕ) → x < 14616 → (u : Bool) → h .rest x ≡ u → h .rest x ≡ false
+      off x i true e = absurd (omega (arith, h .low x e))
+      off x i false e = e
+
+  -- all points are passed
+  all-fans : (k : ℕ) → k ≡ 14616 → fans l 0 k ≡ triangles l
+  all-fans k e =
+      let split : k ≡ l .points + (k - l .points) = omega (arith, l .few) in
+      ap (fans l 0) split ∙ fans-append 0 (l .points) (k - l .points)
+      ∙ ap (λ (ts : List Triangle). fans l 0 (l .points) ++ ts) (fans-none (k - l .points) (0 + l .points) beyond) ∙ append-nil (fans l 0 (l .points))
+    where
+      beyond : (x : ℕ) → 0 + l .points ≤ x → meets (l .steps) x ≡ false
+      beyond x i = go (meets (l .steps) x) refl
+        where
+          go : (b : Bool) → meets (l .steps) x ≡ b → b ≡ false
+          go true e = absurd (omega (arith, l .inside x e))
+          go false e = refl
+
+  pub drawn : (k : ℕ) (s t : Progress) (blocks : List ℕ) → k ≡ 14616 → s .count ≡ 0 → length blocks ≡ 128 → Swept l 0 k s t
+      → Drawn l (s .out) (t .out) (t .count) (trace (t .nexts) (t .marks) blocks)
+  drawn k s t blocks e z b h = record {
+    counted = h .counted ∙ rw (z, zero-add) (ap length (all-fans k e));
+    wrote =
+        h .wrote ∙ rw z (sets-into (collect numbers (fans l 0 k)) (s .out)) ∙ ap (λ (ts : List Triangle). into (collect numbers ts) (s .out)) (all-fans k e);
+    emptied = ends t blocks b (let whole : 0 + k ≡ 14616 = omega arith in subst (λ (v : ℕ). Left l v t) whole (h .left));
+  }

@@ -1,0 +1,50 @@
+-- `loops::Walk::next` meets its contract: by the test whether a face step leaves the point.
+use denote.Ref.{now}
+use mathlib.Core.Path.{_∙_}
+use Rattle.loops.proofs.Held.{leads-twin, leads-step, leads-onward}
+use borrow.Author.Needs.{needs}
+use Rattle.loops.proofs.Walk.next.Statement.{statement}
+use Rattle.loops.proofs.Walk.next.Tie as tie
+
+wide-requires : tie.Need-wide-requires
+wide-requires c κs = search needs
+
+mul-end : tie.Need-mul-end
+mul-end c = search needs
+
+shared-slice-read-end : tie.Need-shared-slice-read-end
+shared-slice-read-end c = search needs
+
+mul-t10 : tie.Need-mul-t10
+mul-t10 c = search needs
+
+shared-slice-read-t12 : tie.Need-shared-slice-read-t12
+shared-slice-read-t12 c = search needs
+
+returns : tie.Need-returns
+returns c =
+    let start = c .before .before .before .before .before .before in
+    let nexts = now (start .args .nexts) in
+    let twins = now (start .args .twins) in
+    let leads = leads-twin nexts twins _ _ (c .before .before .before .wide .ensures) (c .before .if1 .taken) in
+    (λ i. record { before = start .args .self .at; at = leads i }, λ ss twin w n t. leads ∙ leads-onward ss twin nexts twins _ w n t)
+
+returns-2 : tie.Need-returns-2
+returns-2 c =
+    let start = c .before .before .before .before .before in
+    let nexts = now (start .args .nexts) in
+    let twins = now (start .args .twins) in
+    let leads = leads-step nexts twins _ _ (c .before .before .wide .ensures) (c .if1 .left) in
+    (λ i. record { before = start .args .self .at; at = leads i }, λ ss twin w n t. leads ∙ leads-onward ss twin nexts twins _ w n t)
+
+pub next-spec : {M : Type 1} → statement M
+next-spec =
+    tie.close
+    (tie.spec
+    wide-requires
+    mul-end
+    shared-slice-read-end
+    mul-t10
+    shared-slice-read-t12
+    returns
+    returns-2)
