@@ -1,13 +1,13 @@
 -- The forward pass over the records: which cells the tables hold before record n, and one record further.
 use Prim.Native.Nat.{ℕ, zero, suc, pred, _+_, _*_, _-_, _/_, _^_, _≤_, _<_}
-use mathlib.Core.Path.{_≡_, refl, sym, ap, _∙_, subst}
+use mathlib.Core.Path.{_≡_, sym, ap, _∙_, subst}
 use mathlib.Core.Logic.{_⊎_, inl, inr}
-use mathlib.Core.Bool.{Bool, true, false, not, _&&_}
-use mathlib.Core.List.{List, [], _∷_}
+use mathlib.Core.Bool.{true, false, not}
+use mathlib.Core.List.{List}
 use native.Mathlib.Nat.{two-pow-succ}
 use native.Mathlib.Numerals.{add-one}
 use native.Mathlib.Omega.{arith}
-use native.Mathlib.Decide.{ℕ-discrete, decLt}
+use native.Mathlib.Decide.{decLt}
 use lib.Dec.{eqb, T}
 use lib.ListN.{length, getD, set, drop, drop-of-length-le}
 use lib.Seq.{getD-set-same}
@@ -17,14 +17,13 @@ use Rattle.base.specs.Grid.{Place, origin, Axis, X, Y, Z, along, octants}
 use Rattle.base.proofs.Tests.{→true}
 use Rattle.base.proofs.Lists.{in-get}
 use Rattle.base.proofs.Octants.{octant→}
-use Rattle.base.proofs.Below.{any-hit, any-miss}
 use Rattle.rules.specs.Survey.{Cell, cell, entry, entries, cellsOf}
 use Rattle.rules.specs.Outputs.{entriesRight}
 use Rattle.octree.proofs.Queue.{box}
 use Rattle.octree.proofs.Records.{splits, splits-more, SplitRecord, entry-count, entry-of, cell-count, record-count, known, box-first, mark-of, split-record}
 use Rattle.records.specs.Keys.{keyOf}
 use Rattle.cells.specs.Laid.{octantKey, writtenAt, cellAt, tooDeep, Entered, LaidTo, Laid}
-use Rattle.cells.proofs.Octants.{octant-key-is, size-fits}
+use Rattle.cells.proofs.Octants.{octant-key-is}
 use Rattle.cells.proofs.Written.{written-here, written-before}
 
 -- a key of a place in the box is small

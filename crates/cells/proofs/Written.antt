@@ -1,12 +1,12 @@
 -- Numbers written over a list from a position on: one more of them, and what then stands where.
-use Prim.Native.Nat.{ℕ, zero, suc, _+_, _-_, _≤_, _<_}
-use mathlib.Core.Path.{_≡_, refl, sym, ap, _∙_}
+use Prim.Native.Nat.{ℕ, zero, suc, _+_, _≤_, _<_}
+use mathlib.Core.Path.{_≡_, sym, ap, _∙_}
 use mathlib.Core.List.{List, [], _∷_, _++_, map, append-assoc}
 use native.Mathlib.Numerals.{add-one}
 use native.Mathlib.Nat.{add-zero}
 use native.Mathlib.Omega.{arith}
-use lib.ListN.{length, getD, take, drop, set, take-append-drop, length-append, length-take, length-drop, List·getD-append}
-use lib.Seq.{drop-cons, set-at, length-take-le, getD-append-add, getD-take, append-snoc}
+use lib.ListN.{length, getD, take, drop, set, take-append-drop, length-append, length-drop, List·getD-append}
+use lib.Seq.{drop-cons, set-at, length-take-le, getD-append-add, getD-take}
 use Rattle.base.specs.Lists.{count}
 use Rattle.base.proofs.Below.{get-table, length-table}
 use Rattle.cells.specs.Laid.{writtenAt}

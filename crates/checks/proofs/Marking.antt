@@ -1,7 +1,7 @@
 -- Marks, one record further; and what is marked in the end.
-use Prim.Native.Nat.{ℕ, zero, suc, _+_, _^_, _≤_, _<_}
+use Prim.Native.Nat.{ℕ, _+_, _^_, _≤_, _<_}
 use mathlib.Core.Path.{_≡_, refl, sym, ap, _∙_}
-use mathlib.Core.Bool.{Bool, true, false, _&&_, _||_, cond}
+use mathlib.Core.Bool.{Bool, true, false, _||_, cond}
 use mathlib.Core.List.{List, [], _∷_, _++_}
 use native.Mathlib.Decide.{ℕ-discrete}
 use native.Mathlib.Omega.{arith}
@@ -11,7 +11,7 @@ use lib.Seq.{getD-set-same, getD-set-other}
 use borrow.Author.Tests.{lt-ltb, le-ltb, eq-eqb, ne-eqb}
 use Rattle.base.specs.Lists.{all, any, collect, count, count as upTo}
 use Rattle.base.proofs.Lists.{length-count, get-count}
-use Rattle.base.proofs.Below.{rest, all-fails, all-passes, get-table, length-table}
+use Rattle.base.proofs.Below.{rest, all-fails, all-passes, get-table}
 use Rattle.records.specs.Keys.{recordAt}
 use Rattle.cells.specs.Laid.{octantKey}
 use Rattle.base.proofs.Below.{all-append}

@@ -1,26 +1,15 @@
 -- The checks in their order: the first that applies gives its number.
-use Prim.Native.Nat.{ℕ, _+_, _*_, _/_, _%_, _≤_, _<_}
-use mathlib.Core.Path.{_≡_, refl, sym, ap, _∙_}
+use Prim.Native.Nat.{ℕ, _%_, _≤_}
+use mathlib.Core.Path.{_≡_, sym, ap, _∙_}
 use mathlib.Core.Bool.{Bool, true, false, not, _||_, cond, true≢false}
-use mathlib.Core.List.{List, [], _∷_, _++_}
-use native.Mathlib.Omega.{arith}
+use mathlib.Core.List.{List, [], _∷_}
 use lib.Dec.{eqb, ltb}
 use lib.ListN.{length}
 use lib.Ieee.{Float}
 use borrow.Author.Tests.{eq-eqb, ne-eqb, ltb-false}
 use Rattle.base.specs.Lists.{any}
 use Rattle.rules.specs.Survey.{entries, cellsOf, cornersOf}
-use Rattle.rules.specs.Outputs.{
-  badTable,
-  entriesRight,
-  rising,
-  cornersRight,
-  inRange,
-  firstOf,
-  surveyChecks,
-  surveyRefusal,
-  checks,
-}
+use Rattle.rules.specs.Outputs.{badTable, entriesRight, rising, cornersRight, inRange, firstOf, surveyChecks, surveyRefusal, checks}
 use Rattle.octree.proofs.Accepted.{first-append}
 use Rattle.records.specs.Keys.{placesOf}
 use Rattle.cells.specs.Laid.{tooDeep}

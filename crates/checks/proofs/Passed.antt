@@ -1,19 +1,19 @@
 -- What a survey that checks 1 to 7 pass gives the code above: counts that fit its tables, the rules that its look-ups ask, soundings in range,
 -- and for every corner of every cell a record, which is the corner that the rules take there.
 use Prim.Native.Nat.{ℕ, _+_, _/_, _^_, _≤_, _<_}
-use mathlib.Core.Path.{_≡_, sym, ap, _∙_, subst}
+use mathlib.Core.Path.{_≡_, subst}
 use mathlib.Core.Logic.{_⊎_, inl, inr}
-use mathlib.Core.Bool.{Bool, true, false, not, _&&_}
-use mathlib.Core.List.{List, map}
+use mathlib.Core.Bool.{true, false}
+use mathlib.Core.List.{List}
 use native.Mathlib.Omega.{arith}
-use lib.Dec.{T, eqb}
+use lib.Dec.{T}
 use lib.ListN.{length, getD}
 use Rattle.base.specs.Lists.{all, any}
-use Rattle.base.specs.Grid.{Place, origin, Axis, X, Y, along, same}
+use Rattle.base.specs.Grid.{origin, Axis, X, Y, along, same}
 use Rattle.base.proofs.Tests.{and→, true→, false→}
 use Rattle.base.proofs.Lists.{In, in-get, all→in}
 use Rattle.base.proofs.Octants.{octant→}
-use Rattle.rules.specs.Survey.{Cell, entries, cellsOf, cellCorners, cornerRecord, cornersOf, cornerAt, placeOf}
+use Rattle.rules.specs.Survey.{entries, cellsOf, cellCorners, cornerRecord, cornersOf, cornerAt}
 use Rattle.rules.specs.Outputs.{entriesRight, rising, cornersRight, inRange}
 use Rattle.rules.specs.declared.Corner.{Corner}
 use Rattle.octree.proofs.Queue.{box}

@@ -64,7 +64,8 @@ module _ (tc tk : List ℕ) (clearance : Float) (ok : accepted tc tk clearance �
     middle-listed = edges-law tc tk clearance ok .lower-end a (move a (2 ^ l) (at k)) l (both .1)
 
     split-at : carrier (surveyOf tc tk clearance) a (at k) m ≡
-        cond (odd (wetAt (cornersOf tk) clearance) a (at k) l) (carrier (surveyOf tc tk clearance) a (at k) l) (carrier (surveyOf tc tk clearance) a (move a (2 ^ l) (at k)) l)
+        cond (odd (wetAt (cornersOf tk) clearance) a (at k) l) (carrier (surveyOf tc tk clearance) a (at k) l)
+        (carrier (surveyOf tc tk clearance) a (move a (2 ^ l) (at k)) l)
     unfolding surveyOf
     split-at = ap (carrier s a (at k)) q ∙ carrier-below s (edges-law tc tk clearance ok) a (at k) l whole above-lowest
 
@@ -74,7 +75,8 @@ module _ (tc tk : List ℕ) (clearance : Float) (ok : accepted tc tk clearance �
 
     -- one step down
     pub down : (b : Bytes tk) (r : ℕ) →
-        r ≡ cond (odd (wetAt (cornersOf tk) clearance) (axisOf n) (placeAt (placesOf tk) k) l) k (recordAt tk (keyOf (move (axisOf n) (2 ^ l) (placeAt (placesOf tk) k)))) →
+        r ≡ cond (odd (wetAt (cornersOf tk) clearance) (axisOf n) (placeAt (placesOf tk) k) l) k
+        (recordAt tk (keyOf (move (axisOf n) (2 ^ l) (placeAt (placesOf tk) k)))) →
         OddEdge tc tk clearance (axisOf n) r l ×
         (carrier (surveyOf tc tk clearance) (axisOf n) (placeAt (placesOf tk) r) l ≡ carrier (surveyOf tc tk clearance) (axisOf n) (placeAt (placesOf tk) k) m)
     down b r e = go (odd (wetAt (cornersOf tk) clearance) a (at k) l) refl e split-at upper-odd
@@ -83,11 +85,13 @@ module _ (tc tk : List ℕ) (clearance : Float) (ok : accepted tc tk clearance �
         f = found tk b (corners tc tk clearance ok .rises) (move a (2 ^ l) (at k)) middle-listed
 
         go : (t : Bool) → odd (wetAt (cornersOf tk) clearance) a (at k) l ≡ t → r ≡ cond t k (recordAt tk (keyOf (move a (2 ^ l) (at k)))) →
-            carrier (surveyOf tc tk clearance) a (at k) m ≡ cond t (carrier (surveyOf tc tk clearance) a (at k) l) (carrier (surveyOf tc tk clearance) a (move a (2 ^ l) (at k)) l) →
+            carrier (surveyOf tc tk clearance) a (at k) m ≡ cond t (carrier (surveyOf tc tk clearance) a (at k) l)
+            (carrier (surveyOf tc tk clearance) a (move a (2 ^ l) (at k)) l) →
             odd (wetAt (cornersOf tk) clearance) a (move a (2 ^ l) (at k)) l ≡ not t →
             OddEdge tc tk clearance (axisOf n) r l × (carrier (surveyOf tc tk clearance) a (at r) l ≡ carrier (surveyOf tc tk clearance) a (at k) m)
         go true t e c u =
-            subst (λ (j : ℕ). OddEdge tc tk clearance (axisOf n) j l × (carrier (surveyOf tc tk clearance) a (at j) l ≡ carrier (surveyOf tc tk clearance) a (at k) m)) (sym e)
+            subst (λ (j : ℕ). OddEdge tc tk clearance (axisOf n) j l × (carrier (surveyOf tc tk clearance) a (at j) l ≡ carrier (surveyOf tc tk clearance) a
+            (at k) m)) (sym e)
             (record { inside = o .inside; is-edge = both .0; is-odd = →true t }, sym c)
         go false t e c u =
             let p : at r ≡ move a (2 ^ l) (at k) = ap at e ∙ f .1 in (
@@ -139,4 +143,5 @@ module _ (tc tk : List ℕ) (clearance : Float) (ok : accepted tc tk clearance �
       carrier (surveyOf tc tk clearance) (axisOf n) (placeAt (placesOf tk) k) l ≡ carrier (surveyOf tc tk clearance) (axisOf n) (placeAt (placesOf tk) k₀) l₀ →
       getD numbers (4872 * n + k) 0 ≡ pointOf (surveyOf tc tk clearance) (edge (axisOf n) (placeAt (placesOf tk) k₀) l₀)
   point-found k l k₀ l₀ o h numbers t e =
-      number-here k l o h numbers t ∙ ap (numberOf (surveyOf tc tk clearance)) e ∙ sym (point-is (surveyOf tc tk clearance) (edge (axisOf n) (placeAt (placesOf tk) k₀) l₀))
+      number-here k l o h numbers t ∙ ap (numberOf (surveyOf tc tk clearance)) e ∙ sym
+      (point-is (surveyOf tc tk clearance) (edge (axisOf n) (placeAt (placesOf tk) k₀) l₀))

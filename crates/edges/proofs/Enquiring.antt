@@ -80,7 +80,8 @@ module _ (tc tk : List ℕ) (clearance : Float) (a : Axis) (p : Place) (l : ℕ)
         (Crossing (numberOf s (carrier s a p l)) (spotOn (cornersOf tk) clearance (carrier s a p l) .x) (spotOn (cornersOf tk) clearance (carrier s a p l) .y)
         (spotOn (cornersOf tk) clearance (carrier s a p l) .z)) Even)) (sym h) ∙ found-here
 
-    pub answer-crossing : odd (wetAt (cornersOf tk) clearance) a p l ≡ true → (n : ℕ) → n ≡ numberOf (surveyOf tc tk clearance) (carrier (surveyOf tc tk clearance) a p l) →
+    pub answer-crossing : odd (wetAt (cornersOf tk) clearance) a p l ≡ true → (n : ℕ) → n ≡ numberOf (surveyOf tc tk clearance)
+        (carrier (surveyOf tc tk clearance) a p l) →
         (q : Spot) → q ≡ spotOn (cornersOf tk) clearance (carrier (surveyOf tc tk clearance) a p l) →
         Found (Crossing n (q .x) (q .y) (q .z)) ≡ edgeAnswer tc tk clearance a p l
     answer-crossing h n e q f =
@@ -161,7 +162,8 @@ module _ (tc tk : List ℕ) (clearance : Float) (axis : ℕ) (p : Place) (size :
   unfolding checks
   numbers-good = unfold checks in tt
 
-  number-of : firstOf (checks tc tk clearance ++ (11, last) ∷ []) ≡ cond (eqb (firstOf (checks tc tk clearance)) 0) (cond last 11 0) (firstOf (checks tc tk clearance))
+  number-of : firstOf (checks tc tk clearance ++ (11, last) ∷ []) ≡ cond (eqb (firstOf (checks tc tk clearance)) 0) (cond last 11 0)
+      (firstOf (checks tc tk clearance))
   number-of = first-append (checks tc tk clearance) ((11, last) ∷ []) numbers-good
 
   enquiry-is : enquiry tc tk clearance axis p size ≡

@@ -79,13 +79,15 @@ module _ (s : Survey) (laws : Edged s) where
           let h = edge→levels a p l (u .0) .0 in
           let k = laws .shallow a p l (u .0) in
           let m = nltb→le (lowestLevel s a p) l n in
-          →and (eqb l (lowestLevel s a p)) (ltb (lowestLevel s a p) 11) (eq→eqb l (lowestLevel s a p) (omega arith)) (lt→ltb (lowestLevel s a p) 11 (omega arith))
+          →and (eqb l (lowestLevel s a p)) (ltb (lowestLevel s a p) 11) (eq→eqb l (lowestLevel s a p) (omega arith))
+          (lt→ltb (lowestLevel s a p) 11 (omega arith))
 
       from : T (eqb l (lowestLevel s a p) && ltb (lowestLevel s a p) 11) → T (isEdge (s .cells) a p l && not (divided (s .cells) a p l))
       from t =
           let u = and→ (eqb l (lowestLevel s a p)) (ltb (lowestLevel s a p) 11) t in
           let e = eqb→eq l (lowestLevel s a p) (u .0) in
-          let i : T (isEdge (s .cells) a p l) = subst (λ (n : ℕ). T (isEdge (s .cells) a p n)) (sym e) (lowest-edge a p (ltb→lt (lowestLevel s a p) 11 (u .1))) in
+          let i : T (isEdge (s .cells) a p l) = subst (λ (n : ℕ). T (isEdge (s .cells) a p n)) (sym e)
+          (lowest-edge a p (ltb→lt (lowestLevel s a p) 11 (u .1))) in
           let d : divided (s .cells) a p l ≡ false = divided-is a p l i ∙ le-ltb (lowestLevel s a p) l (omega arith) in
           →and (isEdge (s .cells) a p l) (not (divided (s .cells) a p l)) i (→false d)
 

@@ -12,7 +12,8 @@ use lib.Seq.{getD-set-same, getD-set-other, drop-cons}
 use Rattle.base.specs.Lists.{any, collect}
 use Rattle.base.specs.Grid.{Place, origin, Axis, X, Y, Z, next, along, move, axisOf, axisNumber, same}
 use Rattle.base.proofs.Tests.{and→, either, true→}
-use Rattle.base.proofs.Places.{every-axis, same→}
+use Rattle.base.proofs.Places.{same→, square}
+use Rattle.base.proofs.Lists.{In}
 use Rattle.rules.specs.Survey.{Cell, size, cell}
 use Rattle.rules.specs.Edges.{CellEdge, edge}
 use Rattle.rules.specs.Closing.{cellEdgesOn}
@@ -22,9 +23,8 @@ use Rattle.records.proofs.Keys.{Bytes, length-places}
 use Rattle.octree.proofs.Lawful.{CornerOf}
 use Rattle.edges.specs.Tables.{cellEdges, edgesOf, startsAt, lowestIn, highestIn, placeAt, Tabled, Levels}
 use Rattle.edges.specs.Noting.{keyUnit, Noted, Cornered}
-use Rattle.edges.proofs.Starts.{→start, starts, End, start→end}
+use Rattle.edges.proofs.Starts.{→start, square-corner}
 use Rattle.edges.proofs.Find.{key-move, found, one-record}
-use Rattle.base.proofs.Lists.{In}
 
 axis-number : (n m : ℕ) → n < 3 → m < 3 → axisNumber (axisOf n) ≡ axisNumber (axisOf m) → n ≡ m
 axis-number zero zero g h e = refl
@@ -74,7 +74,8 @@ module _ (take : ℕ → ℕ → ℕ) (f : List CellEdge → Axis → Place → 
           ap (λ i. getD (set table (4872 * n + k) v) i 0) s ∙ getD-set-same table (4872 * n + k) v 0 (omega arith) ∙
           ap (take l) (t .entry n k g h) ∙
           (λ i. take l (f es (axisOf (sym a i)) (placeAt places (sym c i)))) ∙
-          sym (step e es (axisOf m) (placeAt places j) ∙ ap (λ b. cond b (take l (f es (axisOf m) (placeAt places j))) (f es (axisOf m) (placeAt places j))) (here m j a c))
+          sym (step e es (axisOf m) (placeAt places j) ∙ ap (λ b. cond b (take l (f es (axisOf m) (placeAt places j))) (f es (axisOf m) (placeAt places j)))
+          (here m j a c))
       go m j p q (no s) (inl u) =
           let w = and→ (same (placeAt places j) (placeAt places k)) (eqb (axisNumber (axisOf m)) (axisNumber (axisOf n))) u in
           let c = apart j k q h (same→ (placeAt places j) (placeAt places k) (w .0)) in
@@ -114,7 +115,8 @@ module _ (t : List ℕ) (b : Bytes t) (up : rising (placesOf t) ≡ true) (few :
         adds = λ es v. record {
           low = subst (λ q. Tabled (placesOf t) (lowestIn (edge (axisOf n) q l ∷ es)) (set lowest (4872 * n + k) (min l (getD lowest (4872 * n + k) 0)))) (r .1)
               (tabled-more min lowestIn low-step (placesOf t) small apart es lowest (v .low) n k l h g);
-          high = subst (λ q. Tabled (placesOf t) (highestIn (edge (axisOf n) q l ∷ es)) (set highest (4872 * n + k) (max l (getD highest (4872 * n + k) 0)))) (r .1)
+          high = subst (λ q. Tabled (placesOf t) (highestIn (edge (axisOf n) q l ∷ es))
+              (set highest (4872 * n + k) (max l (getD highest (4872 * n + k) 0)))) (r .1)
               (tabled-more max highestIn high-step (placesOf t) small apart es highest (v .high) n k l h g);
         };
       }
@@ -150,13 +152,10 @@ module _ (places : List Place) where
 
 -- ---- the four edges of a cell on an axis
 
-end-corner : (c : Cell) (a : Axis) (p : Place) → End c a p → CornerOf (c .level) (c .low) p
-end-corner c a p (u, v, w) = every-axis (λ b. (along b p ≡ along b (c .low)) ⊎ (along b p ≡ along b (c .low) + size c)) a (inl u) v w
-
 module _ (places : List Place) (c : Cell) (a : Axis) (all : Cornered places c) where
-  -- the lower ends are listed
-  listed : (p : Place) → In p (starts c a) → T (any (same p) places)
-  listed p i = all p (end-corner c a p (start→end c a p i))
+  -- the lower ends are corners of the cell, and so are listed
+  listed : (q : Place) → In q (square a (size c) (c .low)) → T (any (same q) places)
+  listed q i = all q (square-corner (c .level) (c .low) a q i .1)
 
   pub low-listed : T (any (same (c .low)) places)
   low-listed = listed (c .low) (inl refl)
@@ -181,7 +180,8 @@ module _ (places : List Place) (c : Cell) (a : Axis) where
       let right-of : Place = move (next a) (size c) (c .low) in
       let up-of : Place = move (next (next a)) (size c) (c .low) in
       let far-of : Place = move (next a) (size c) up-of in
-      let two : Noted places (edge a up-of l ∷ edge a far-of l ∷ []) l₀ h₀ l₂ h₂ = noted-then places (edge a far-of l ∷ []) (edge a up-of l ∷ []) l₀ h₀ l₁ h₁ l₂ h₂ far up in
+      let two : Noted places (edge a up-of l ∷ edge a far-of l ∷ []) l₀ h₀ l₂ h₂ = noted-then places (edge a far-of l ∷ []) (edge a up-of l ∷ []) l₀ h₀ l₁
+      h₁ l₂ h₂ far up in
       let three : Noted places (edge a right-of l ∷ edge a up-of l ∷ edge a far-of l ∷ []) l₀ h₀ l₃ h₃ =
       noted-then places (edge a up-of l ∷ edge a far-of l ∷ []) (edge a right-of l ∷ []) l₀ h₀ l₂ h₂ l₃ h₃ two right in
       let four : Noted places (edge a (c .low) l ∷ edge a right-of l ∷ edge a up-of l ∷ edge a far-of l ∷ []) l₀ h₀ l₄ h₄ =

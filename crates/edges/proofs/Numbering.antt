@@ -96,7 +96,8 @@ module _ (s : Survey) where
         }
 
 -- the last slot passed
-module _ (s : Survey) (laws : Edged s) (few : length (s .places) ≤ 4872) (numbers slots : List ℕ) (n i : ℕ) (was : Numbered s numbers slots n i) (e : i ≡ 14616) where
+module _ (s : Survey) (laws : Edged s) (few : length (s .places) ≤ 4872) (numbers slots : List ℕ) (n i : ℕ) (was : Numbered s numbers slots n i)
+    (e : i ≡ 14616) where
   pub numbers-done : Numbers s numbers
   numbers-done = record { size = was .numbers-size; entry = λ j h. was .number j (omega arith) }
 
@@ -104,7 +105,7 @@ module _ (s : Survey) (laws : Edged s) (few : length (s .places) ≤ 4872) (numb
   slots-done = record {
     size = was .slots-size;
     entry = λ v h.
-    was .slot v (omega (arith, was .counted, ap (λ j. length (slotsBelow s j)) e)) ∙ ap (λ j. getD (slotsBelow s j) v 0) e;
+        was .slot v (omega (arith, was .counted, ap (λ j. length (slotsBelow s j)) e)) ∙ ap (λ j. getD (slotsBelow s j) v 0) e;
   }
 
   pub count-done : n ≡ length (pointEdges s)

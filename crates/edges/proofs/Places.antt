@@ -23,7 +23,8 @@ use Rattle.edges.proofs.Readings.{lowest-read}
 use Rattle.edges.proofs.TwinSlots.{slot-edge, slot-odd-edge}
 
 -- the corner at a record's place is the record
-record-corner : (t : List ℕ) → Bytes t → rising (placesOf t) ≡ true → (k : ℕ) → k < length t / 10 → cornerRecord t k ≡ cornerAt (cornersOf t) (placeAt (placesOf t) k)
+record-corner : (t : List ℕ) → Bytes t → rising (placesOf t) ≡ true → (k : ℕ) → k < length t / 10 → cornerRecord t k ≡ cornerAt (cornersOf t)
+    (placeAt (placesOf t) k)
 record-corner t b up k h =
     let p = placeOf (cornerRecord t k) in
     let e : recordAt t (keyOf p) ≡ k = found-self t b up k h in
@@ -44,5 +45,6 @@ pub slot-edge-read : (tc tk : List ℕ) (clearance : Float) (ok : accepted tc tk
 unfolding surveyOf
 slot-edge-read tc tk clearance ok lowest low i h t =
     ap (edge (axisOf (i / 4872)) (placeAt (placesOf tk) (i % 4872)))
-    (lowest-read tc tk clearance ok lowest low (i / 4872) (i % 4872) i (omega arith) (omega arith) (slot-odd-edge tc tk clearance ok lowest low i h t .inside)) ∙
+    (lowest-read tc tk clearance ok lowest low (i / 4872) (i % 4872) i (omega arith) (omega arith) (slot-odd-edge tc tk clearance ok lowest low i h
+    t .inside)) ∙
     sym (slot-edge (surveyOf tc tk clearance) i)

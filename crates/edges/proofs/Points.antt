@@ -167,8 +167,10 @@ module _ (s : Survey) (laws : Edged s) (few : length (s .places) ≤ 4872) where
       ap (map g) kept-parts ∙
       map-append g (keep f (count 0 w)) (keep f (count (0 + w) w) ++ keep f (count (0 + w + w) w)) ∙
       ap (λ (l : List CellEdge). map g (keep f (count 0 w)) ++ l) (map-append g (keep f (count (0 + w) w)) (keep f (count (0 + w + w) w))) ∙
-      (λ j. row s 0 w 0 0 (omega arith) (omega arith) few j ++ (row s 1 w 0 (0 + w) (omega arith) (omega arith) few j ++ row s 2 w 0 (0 + w + w) (omega arith) (omega arith) few j)) ∙
-      ap (λ (l : List CellEdge). collect (pointAt s X) (s .places) ++ (collect (pointAt s Y) (s .places) ++ l)) (sym (append-nil (collect (pointAt s Z) (s .places)))) ∙
+      (λ j. row s 0 w 0 0 (omega arith) (omega arith) few j ++ (row s 1 w 0 (0 + w) (omega arith) (omega arith) few j ++ row s 2 w 0 (0 + w + w)
+      (omega arith) (omega arith) few j)) ∙
+      ap (λ (l : List CellEdge). collect (pointAt s X) (s .places) ++ (collect (pointAt s Y) (s .places) ++ l))
+      (sym (append-nil (collect (pointAt s Z) (s .places)))) ∙
       sym (points-are s laws)
 
   -- the edges that carry the points, by slot
@@ -205,7 +207,8 @@ module _ (s : Survey) (laws : Edged s) (few : length (s .places) ≤ 4872) where
       let n : length ls ≡ length (slotsBelow s i) = length-map (slotsBelow s i) (slotEdge s) in
       let m : length (pointEdges s) ≡ length ls + suc (length rs) = ap length whole ∙ length-append ls (slotEdge s i ∷ rs) in
       let at : getD (pointEdges s) (length (slotsBelow s i)) (slotEdge s i) ≡ slotEdge s i =
-      ap (λ (l : List CellEdge). getD l (length (slotsBelow s i)) (slotEdge s i)) whole ∙ getD-at ls (slotEdge s i) rs (slotEdge s i) (length (slotsBelow s i)) n in
+      ap (λ (l : List CellEdge). getD l (length (slotsBelow s i)) (slotEdge s i)) whole ∙ getD-at ls (slotEdge s i) rs (slotEdge s i)
+      (length (slotsBelow s i)) n in
       ap (numberOf s) (sym at) ∙ laws .numbered (slotEdge s i) (length (slotsBelow s i)) (omega arith)
 
   -- the number of a crossed slot's point is the count of crossed slots before it

@@ -85,8 +85,8 @@ module _ (tc tk : List ℕ) (ok : surveyRefusal tc tk ≡ 0) where
     few = corners-few;
     rises = rises-true;
     small = λ k h.
-    let p = placeAt (placesOf tk) k in
-    let q = in→any (same p) (placesOf tk) p (in-get (placesOf tk) k origin (omega (arith, length-places tk))) (same-refl p) in
-    let (l, c, t, o) = checked-lawful tc tk nan passes .corner p q in
-    key-small p (λ a. corner-place (cellsOf tc) tree l c p t o a .1);
+        let p = placeAt (placesOf tk) k in
+        let q = in→any (same p) (placesOf tk) p (in-get (placesOf tk) k origin (omega (arith, length-places tk))) (same-refl p) in
+        let (l, c, t, o) = checked-lawful tc tk nan passes .corner p q in
+        key-small p (λ a. corner-place (cellsOf tc) tree l c p t o a .1);
   }

@@ -68,7 +68,8 @@ module _ (tc tk : List ℕ) (clearance : Float) (ok : accepted tc tk clearance �
     point-odd-edge = slot-odd-edge (getD slots v 0) slot-inside slot-crossed
 
     -- the level and the place as the tables have them
-    level-here : lowestLevel (surveyOf tc tk clearance) (axisOf (getD slots v 0 / 4872)) (placeAt (surveyOf tc tk clearance .places) (getD slots v 0 % 4872)) ≡ getD lowest (getD slots v 0) 0
+    level-here : lowestLevel (surveyOf tc tk clearance) (axisOf (getD slots v 0 / 4872)) (placeAt (surveyOf tc tk clearance .places)
+        (getD slots v 0 % 4872)) ≡ getD lowest (getD slots v 0) 0
     unfolding surveyOf
     level-here =
         let i = getD slots v 0 in
@@ -96,8 +97,14 @@ module _ (tc tk : List ℕ) (clearance : Float) (ok : accepted tc tk clearance �
         point-edge s (edges-law tc tk clearance ok) (few-places tc tk clearance ok) v h ∙ ap (slotEdge s) (sym (at .entry v h)) ∙ slot-edge s i in
         sym (twin-def s v ∙ ap (λ (x : CellEdge). numberElse s v (twin s 10 (x .axis) (x .low) (x .level))) e ∙
         (λ j. numberElse s v (twin s 10 (axisOf (i / 4872)) (place-here j) (level-here j))))
+
   pub points-few : length (pointEdges (surveyOf tc tk clearance)) ≤ 14616
-  points-few = omega (arith, point-count (surveyOf tc tk clearance) (edges-law tc tk clearance ok) (few-places tc tk clearance ok), below-le (surveyOf tc tk clearance) 14616)
+  points-few = omega (
+    arith,
+    point-count (surveyOf tc tk clearance) (edges-law tc tk clearance ok) (few-places tc tk clearance ok),
+    below-le
+        (surveyOf tc tk clearance) 14616,
+  )
 
   pub points-slots : length (pointEdges (surveyOf tc tk clearance)) ≡ length (slotsBelow (surveyOf tc tk clearance) 14616)
   points-slots = sym (point-count (surveyOf tc tk clearance) (edges-law tc tk clearance ok) (few-places tc tk clearance ok))

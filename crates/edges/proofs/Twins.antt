@@ -38,12 +38,14 @@ module _ (s : Survey) (laws : Edged s) (a : Axis) (p : Place) (l : ℕ) (t : T (
       go true r h e =
           let q = back a (2 ^ l) p in
           let m : move a (2 ^ l) q ≡ p = back-move a (2 ^ l) p (r refl) in
-          let upper : T (isEdge (s .cells) a (move a (2 ^ l) q) l) = subst (λ (x : Place). T (isEdge (s .cells) a x l)) (sym m) t in
-          (laws .halves a q l h (or-right (isEdge (s .cells) a q l) (isEdge (s .cells) a (move a (2 ^ l) q) l) upper) .0,
-          →true (sym (even-halves (s .isWet) a q l e) ∙ ap (λ (x : Place). odd (s .isWet) a x l) m ∙ true→ (odd (s .isWet) a p l) o))
-      go false r h e =
-          (laws .halves a p l h (or-left (isEdge (s .cells) a p l) (isEdge (s .cells) a (move a (2 ^ l) p) l) t) .1,
-          →true (even-halves (s .isWet) a p l e ∙ true→ (odd (s .isWet) a p l) o))
+          let upper : T (isEdge (s .cells) a (move a (2 ^ l) q) l) = subst (λ (x : Place). T (isEdge (s .cells) a x l)) (sym m) t in (
+            laws .halves a q l h (or-right (isEdge (s .cells) a q l) (isEdge (s .cells) a (move a (2 ^ l) q) l) upper) .0,
+            →true (sym (even-halves (s .isWet) a q l e) ∙ ap (λ (x : Place). odd (s .isWet) a x l) m ∙ true→ (odd (s .isWet) a p l) o),
+          )
+      go false r h e = (
+        laws .halves a p l h (or-left (isEdge (s .cells) a p l) (isEdge (s .cells) a (move a (2 ^ l) p) l) t) .1,
+        →true (even-halves (s .isWet) a p l e ∙ true→ (odd (s .isWet) a p l) o),
+      )
 
 -- how far the climb from record k₀ and level l₀ has come
 pub record Climbed (tc tk : List ℕ) (clearance : Float) (a : Axis) (k₀ l₀ k l : ℕ) : Type 0 where
@@ -88,9 +90,10 @@ module _ (tc tk : List ℕ) (clearance : Float) (ok : accepted tc tk clearance �
     pub edge-levels : T (isEdge (cellsOf tc) (axisOf n) (placeAt (placesOf tk) k) l) → (getD lowest (4872 * n + k) 0 ≤ l) × (l ≤ getD highest (4872 * n + k) 0)
     unfolding surveyOf
     edge-levels t =
-        let v = edge→levels s (edges-law tc tk clearance ok) (axisOf n) (at k) l t in
-        (omega (arith, v .0, lowest-read tc tk clearance ok lowest low n k (4872 * n + k) refl g h),
-        omega (arith, v .1, highest-read highest high n k (4872 * n + k) refl g h))
+        let v = edge→levels s (edges-law tc tk clearance ok) (axisOf n) (at k) l t in (
+          omega (arith, v .0, lowest-read tc tk clearance ok lowest low n k (4872 * n + k) refl g h),
+          omega (arith, v .1, highest-read highest high n k (4872 * n + k) refl g h),
+        )
 
     pub levels-edge : getD lowest (4872 * n + k) 0 ≤ l → l ≤ getD highest (4872 * n + k) 0 → T (isEdge (cellsOf tc) (axisOf n) (placeAt (placesOf tk) k) l)
     unfolding surveyOf
@@ -112,7 +115,8 @@ module _ (tc tk : List ℕ) (clearance : Float) (ok : accepted tc tk clearance �
         Sought tc tk (axisOf n) p l (length tk / 10)
     sought-miss p e o = record { found = λ x. absurd (omega arith); none = λ x. ap (λ q. isEdge (cellsOf tc) (axisOf n) q l) (sym e) ∙ levels-miss o }
 
-    pub sought-hit : (p : Place) → placeAt (placesOf tk) k ≡ p → getD lowest (4872 * n + k) 0 ≤ l → l ≤ getD highest (4872 * n + k) 0 → Sought tc tk (axisOf n) p l k
+    pub sought-hit : (p : Place) → placeAt (placesOf tk) k ≡ p → getD lowest (4872 * n + k) 0 ≤ l → l ≤ getD highest (4872 * n + k) 0 → Sought tc tk
+        (axisOf n) p l k
     sought-hit p e u v = record {
       found = λ x. (subst (λ q. T (isEdge (cellsOf tc) (axisOf n) q l)) e (levels-edge u v), e);
       none = λ x. absurd (omega arith);
@@ -120,12 +124,14 @@ module _ (tc tk : List ℕ) (clearance : Float) (ok : accepted tc tk clearance �
 
   -- ---- the climb
 
-  module _ (a : Axis) (k₀ l₀ k l m r : ℕ) (v : ℕ) (c : Climbed tc tk clearance a k₀ l₀ k l) (q : m ≡ suc l) (f : Sought tc tk a (above a (placeAt (placesOf tk) k) l) m r) where
+  module _ (a : Axis) (k₀ l₀ k l m r : ℕ) (v : ℕ) (c : Climbed tc tk clearance a k₀ l₀ k l) (q : m ≡ suc l)
+      (f : Sought tc tk a (above a (placeAt (placesOf tk) k) l) m r) where
     -- no cell has an edge above
     pub climb-ends : length tk / 10 ≤ r → v ≡ numberElse (surveyOf tc tk clearance) v (twin (surveyOf tc tk clearance) 10 a (placeAt (placesOf tk) k₀) l₀)
     unfolding surveyOf
     climb-ends h =
-        sym (ap (numberElse s v) (sym (c .same-twin) ∙ twin-none s (c .left) a (at k) l (ap (isEdge (cellsOf tc) a (above a (at k) l)) (sym q) ∙ f .none h)) ∙ else-none s v)
+        sym (ap (numberElse s v) (sym (c .same-twin) ∙ twin-none s (c .left) a (at k) l (ap (isEdge (cellsOf tc) a (above a (at k) l)) (sym q) ∙ f .none h))
+        ∙ else-none s v)
 
     module _ (h : r < length tk / 10) where
       above-edge : T (isEdge (cellsOf tc) a (above a (at k) l) (suc l))
@@ -171,7 +177,8 @@ module _ (tc tk : List ℕ) (clearance : Float) (ok : accepted tc tk clearance �
           }
 
       -- it is even: down its other half
-      module _ (b : Bytes tk) (o : odd (wetAt (cornersOf tk) clearance) a (placeAt (placesOf tk) r) m ≡ false) (w : ℕ) (z : w ≡ recordAt tk (keyOf (other a (placeAt (placesOf tk) k) l))) where
+      module _ (b : Bytes tk) (o : odd (wetAt (cornersOf tk) clearance) a (placeAt (placesOf tk) r) m ≡ false) (w : ℕ)
+          (z : w ≡ recordAt tk (keyOf (other a (placeAt (placesOf tk) k) l))) where
         other-is : T (isEdge (cellsOf tc) a (other a (at k) l) l) × T (odd (wetAt (cornersOf tk) clearance) a (other a (at k) l) l)
         unfolding surveyOf
         other-is = other-odd s (edges-law tc tk clearance ok) a (at k) l (c .odd-edge .is-edge) (c .odd-edge .is-odd) above-edge (sym odd-above ∙ o)
@@ -179,7 +186,8 @@ module _ (tc tk : List ℕ) (clearance : Float) (ok : accepted tc tk clearance �
         other-found : (w < length tk / 10) × (at w ≡ other a (at k) l)
         unfolding surveyOf
         other-found =
-            let u = found tk b (corners tc tk clearance ok .rises) (other a (at k) l) (edges-law tc tk clearance ok .lower-end a (other a (at k) l) l (other-is .0)) in
+            let u = found tk b (corners tc tk clearance ok .rises) (other a (at k) l) (edges-law tc tk clearance ok .lower-end a (other a (at k) l) l
+            (other-is .0)) in
             (omega (arith, u .0, z), ap at z ∙ u .1)
 
         pub other-edge : OddEdge tc tk clearance a w l
@@ -195,5 +203,6 @@ module _ (tc tk : List ℕ) (clearance : Float) (ok : accepted tc tk clearance �
         climb-turns =
             let j = one-left in
             ap (λ (x : Place). pointOf s (edge a x l)) (other-found .1) ∙ sym (else-some s v a (other a (at k) l) l) ∙
-            ap (numberElse s v) (sym (twin-found s (j .0) a (at k) l (true→ (isEdge (cellsOf tc) a (above a (at k) l) (suc l)) above-edge) (sym odd-above ∙ o)) ∙
+            ap (numberElse s v) (sym (twin-found s (j .0) a (at k) l (true→ (isEdge (cellsOf tc) a (above a (at k) l) (suc l)) above-edge)
+            (sym odd-above ∙ o)) ∙
             ap (λ (n : ℕ). twin s n a (at k) l) (sym (j .1)) ∙ c .same-twin)

@@ -1,21 +1,20 @@
 -- What a look-up by key finds: the record at the place, which is the corner that the rules take there.
-use Prim.Native.Nat.{ℕ, zero, suc, _+_, _/_, _≤_, _<_}
-use mathlib.Core.Path.{_≡_, refl, sym, ap, _∙_, subst}
-use mathlib.Core.Bool.{Bool, true, false, _||_, cond}
+use Prim.Native.Nat.{ℕ, suc, _/_, _<_}
+use mathlib.Core.Path.{_≡_, refl, sym, ap, _∙_}
+use mathlib.Core.Bool.{Bool, false}
 use mathlib.Core.List.{List, [], _∷_, map}
-use native.Mathlib.Nat.{zero-add}
 use native.Mathlib.Omega.{arith}
 use lib.Dec.{eqb, T}
 use lib.ListN.{length, getD}
 use lib.IntN.{pos}
 use lib.Ieee.{fin}
-use Rattle.base.specs.Lists.{any, first, position}
+use Rattle.base.specs.Lists.{any, position}
 use Rattle.base.specs.Grid.{Place, same}
 use Rattle.base.proofs.Below.{position-same, first-position, any-position, position-any}
 use Rattle.rules.specs.Survey.{cornerRecord, cornersOf, placeOf, cornerAt}
 use Rattle.rules.specs.declared.Corner.{Corner}
 use Rattle.records.specs.Keys.{keyOf, placesOf, recordAt}
-use Rattle.records.proofs.Keys.{Bytes, Short, nowhere, same-key, record-short, get-corner, get-place, length-places, length-corners}
+use Rattle.records.proofs.Keys.{Bytes, Short, nowhere, same-key, record-short, get-corner, get-place, length-places}
 
 position-map : (f : Place → Bool) (l : List Corner) (n : ℕ) → position f n (map placeOf l) ≡ position (λ c. f (placeOf c)) n l
 position-map f [] n = refl

@@ -1,24 +1,22 @@
 -- Keys in order: the order by one key is the order by z, then y, then x; and what a strict rise gives a search by halving.
-use Prim.Native.Nat.{ℕ, zero, suc, _+_, _*_, _/_, _≤_, _<_}
-use mathlib.Core.Path.{_≡_, refl, sym, ap, _∙_}
-use mathlib.Core.Logic.{_⊎_, inl, inr}
-use mathlib.Core.Bool.{Bool, true, false, _&&_, _||_, cond, false≢true}
-use mathlib.Core.List.{List, [], _∷_, map}
+use Prim.Native.Nat.{ℕ, _+_, _*_, _/_, _≤_, _<_}
+use mathlib.Core.Path.{_≡_, sym, ap, _∙_}
+use mathlib.Core.List.{List}
 use native.Mathlib.Decide.{ℕ-discrete, decLt}
 use native.Mathlib.Omega.{arith}
 use lib.Dec.{eqb, ltb, lit≤}
 use lib.Ieee.{nan}
 use mir.Val.{Fits}
 use mir.Syntax.{w8}
-use lib.ListN.{length, getD, drop, length-map, List·getD-map}
-use borrow.Author.Tests.{lt-ltb, le-ltb, eq-eqb, ne-eqb, ltb-true}
-use Rattle.base.specs.Lists.{position, little, bytes, count}
+use lib.ListN.{length, getD, length-map, List·getD-map}
+use borrow.Author.Tests.{lt-ltb, le-ltb, eq-eqb, ne-eqb}
+use Rattle.base.specs.Lists.{little, bytes}
 use Rattle.base.specs.Grid.{Place, same}
-use Rattle.base.proofs.Below.{get-table, length-table, rest, position-at, position-none, position-le}
+use Rattle.base.proofs.Below.{get-table, length-table}
 use Rattle.rules.specs.Survey.{cornerRecord, cornersOf, placeOf}
-use Rattle.rules.specs.Outputs.{before, rising}
+use Rattle.rules.specs.Outputs.{before}
 use Rattle.rules.specs.declared.Corner.{Corner}
-use Rattle.records.specs.Keys.{keyOf, placesOf, recordAt}
+use Rattle.records.specs.Keys.{keyOf, placesOf}
 use Rattle.records.proofs.Bytes.{part, little-two}
 
 -- two coordinates fit 16 bits, as those of a record do

@@ -1,22 +1,21 @@
 -- Records that rise: check 5 record by record, and a search by halving for the record with a key.
 use Prim.Native.Nat.{ℕ, zero, suc, _+_, _/_, _≤_, _<_}
 use mathlib.Core.Path.{_≡_, refl, sym, ap, _∙_}
-use mathlib.Core.Bool.{Bool, true, false, _&&_, cond, false≢true}
+use mathlib.Core.Bool.{Bool, true, false, _&&_, false≢true}
 use mathlib.Core.List.{List, [], _∷_}
 use native.Mathlib.Numerals.{add-one}
 use native.Mathlib.Nat.{zero-add}
 use native.Mathlib.Decide.{ℕ-discrete, decLt}
 use native.Mathlib.Omega.{arith}
 use lib.Dec.{eqb, ltb}
-use lib.ListN.{length, getD, drop, length-drop, drop-of-length-le}
+use lib.ListN.{length, getD, drop, length-drop}
 use borrow.Author.Tests.{lt-ltb, le-ltb, eq-eqb, ne-eqb, ltb-true}
-use Rattle.base.specs.Lists.{position}
 use Rattle.base.specs.Grid.{Place}
 use Rattle.base.proofs.Below.{rest, position-at, position-none, position-le}
-use Rattle.rules.specs.Survey.{cornerRecord, placeOf, cornersOf}
+use Rattle.rules.specs.Survey.{cornerRecord, placeOf}
 use Rattle.rules.specs.Outputs.{before, rising}
 use Rattle.records.specs.Keys.{keyOf, placesOf, recordAt}
-use Rattle.records.proofs.Keys.{Bytes, Short, nowhere, before-key, record-short, get-place, length-places}
+use Rattle.records.proofs.Keys.{Bytes, nowhere, before-key, record-short, get-place, length-places}
 
 -- the key of record k
 abbrev pub keyAt : List ℕ → ℕ → ℕ

@@ -1,7 +1,6 @@
 -- `cells::put_children` meets its contract: before each turn the first i children are written, and all else is as it was.
-use Prim.Native.Nat.{ℕ, _^_}
+use Prim.Native.Nat.{ℕ}
 use mathlib.Core.Path.{_∙_, ap, refl}
-use mathlib.Core.List.{List}
 use Rattle.cells.proofs.Written.{written-turn}
 use lib.ListN.{length-set}
 use Prim.Native.Nat.{_+_, _-_, _≤_}

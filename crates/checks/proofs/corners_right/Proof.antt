@@ -1,6 +1,6 @@
 -- `checks::corners_right` meets its contract: a corner that is missing decides, and else the marks.
 use native.Mathlib.Omega.{arith}
-use mathlib.Core.Path.{_∙_, sym, ap}
+use mathlib.Core.Path.{_∙_, sym}
 use borrow.Author.Tests.{not-true, not-false}
 use Rattle.cells.proofs.Laying.{key-of-cell-small}
 use Rattle.checks.proofs.Corners.{one-missing, none-missing-made}

@@ -1,5 +1,5 @@
 -- `checks::mark_corners` meets its contract: before each turn the corners that are left decide whether one is missing, and what is left to mark.
-use Prim.Native.Nat.{ℕ, _+_, _^_}
+use Prim.Native.Nat.{ℕ, _+_}
 use mathlib.Core.Path.{ap, refl}
 use mathlib.Core.Bool.{false≢true}
 use lib.ListN.{length-set}

@@ -33,7 +33,8 @@ returns c =
     let v = s .args .clearance in
     λ p w e. record {
       found = λ x. absurd (omega arith);
-      none = λ x. nowhere tc tk v (s .pre .0) (c .before .before .before .before .shared-slice-known2 .given) (axisOf (s .args .axis)) p (s .args .level) (s .args .key) (c .before .find .result) e (c .before .find .ensures) (c .if1 .taken);
+      none = λ x. nowhere tc tk v (s .pre .0) (c .before .before .before .before .shared-slice-known2 .given) (axisOf (s .args .axis)) p (s .args .level)
+          (s .args .key) (c .before .find .result) e (c .before .find .ensures) (c .if1 .taken);
     }
 
 -- src/lib.rt:326:14
@@ -62,8 +63,10 @@ returns-2 c =
     let v = s .args .clearance in
     let f = c .before .before .before in
     let d = f .before .before .before .shared-slice-known2 .given in
-    λ p w e. sought-miss tc tk v (s .pre .0) (s .args .lowest .now) (s .args .highest .now) (s .pre .1 .0) (s .pre .1 .1 .0) (s .args .axis) (f .find .result) (s .args .level) (s .pre .1 .1 .1) (omega arith) p
-    (at-place tc tk v (s .pre .0) d (axisOf (s .args .axis)) p (s .args .level) (s .args .key) (f .find .result) e (f .find .ensures) w (omega arith)) (inl (c .if2 .taken))
+    λ p w e. sought-miss tc tk v (s .pre .0) (s .args .lowest .now) (s .args .highest .now) (s .pre .1 .0) (s .pre .1 .1 .0) (s .args .axis)
+    (f .find .result) (s .args .level) (s .pre .1 .1 .1) (omega arith) p
+    (at-place tc tk v (s .pre .0) d (axisOf (s .args .axis)) p (s .args .level) (s .args .key) (f .find .result) e (f .find .ensures) w (omega arith))
+    (inl (c .if2 .taken))
 
 -- src/lib.rt:330:8
 shared-slice-read-if3 : tie.Need-shared-slice-read-if3
@@ -83,8 +86,10 @@ returns-3 c =
     let v = s .args .clearance in
     let f = c .before .before .before .before .before in
     let d = f .before .before .before .shared-slice-known2 .given in
-    λ p w e. sought-miss tc tk v (s .pre .0) (s .args .lowest .now) (s .args .highest .now) (s .pre .1 .0) (s .pre .1 .1 .0) (s .args .axis) (f .find .result) (s .args .level) (s .pre .1 .1 .1) (omega arith) p
-    (at-place tc tk v (s .pre .0) d (axisOf (s .args .axis)) p (s .args .level) (s .args .key) (f .find .result) e (f .find .ensures) w (omega arith)) (inr (c .if3 .taken))
+    λ p w e. sought-miss tc tk v (s .pre .0) (s .args .lowest .now) (s .args .highest .now) (s .pre .1 .0) (s .pre .1 .1 .0) (s .args .axis)
+    (f .find .result) (s .args .level) (s .pre .1 .1 .1) (omega arith) p
+    (at-place tc tk v (s .pre .0) d (axisOf (s .args .axis)) p (s .args .level) (s .args .key) (f .find .result) e (f .find .ensures) w (omega arith))
+    (inr (c .if3 .taken))
 
 -- src/lib.rt:314:1
 returns-4 : tie.Need-returns-4
@@ -95,8 +100,10 @@ returns-4 c =
     let v = s .args .clearance in
     let f = c .before .before .before .before .before in
     let d = f .before .before .before .shared-slice-known2 .given in
-    λ p w e. sought-hit tc tk v (s .pre .0) (s .args .lowest .now) (s .args .highest .now) (s .pre .1 .0) (s .pre .1 .1 .0) (s .args .axis) (f .find .result) (s .args .level) (s .pre .1 .1 .1) (omega arith) p
-    (at-place tc tk v (s .pre .0) d (axisOf (s .args .axis)) p (s .args .level) (s .args .key) (f .find .result) e (f .find .ensures) w (omega arith)) (omega arith) (omega arith)
+    λ p w e. sought-hit tc tk v (s .pre .0) (s .args .lowest .now) (s .args .highest .now) (s .pre .1 .0) (s .pre .1 .1 .0) (s .args .axis)
+    (f .find .result) (s .args .level) (s .pre .1 .1 .1) (omega arith) p
+    (at-place tc tk v (s .pre .0) d (axisOf (s .args .axis)) p (s .args .level) (s .args .key) (f .find .result) e (f .find .ensures) w (omega arith))
+    (omega arith) (omega arith)
 
 pub edge-record-spec : {M : Type 1} → statement M
 edge-record-spec =

@@ -10,8 +10,8 @@ use Rattle.edges.proofs.enquire.Tie as tie
 use Rattle.edges.proofs.enquire.Reads as reads
 use Rattle.edges.proofs.enquire.Lts as lts
 use Rattle.checks.proofs.refusal.Reads as refusal-reads
-use Rattle.edges.proofs.enquire_accepted.Reads as enquire-accepted-reads
-use Rattle.edges.proofs.level_of.Reads as level-of-reads
+use Rattle.edges.proofs.answers.enquire_accepted.Reads as enquire-accepted-reads
+use Rattle.edges.proofs.keys.level_of.Reads as level-of-reads
 
 -- src/lib.rt:504:9
 refusal-requires : tie.Need-refusal-requires
@@ -53,7 +53,8 @@ returns-3 c =
     let p : Place = record { x = s .args .x; y = s .args .y; z = s .args .z } in
     let f = c .before .before .before .refusal in
     let z = c .before .before .if1 .left in
-    edge-refused tc tk x n p (s .args .size) (f .result) (f .ensures) z (omega arith) (far-off tc tk x (is-accepted tc tk x n p (s .args .size) (f .result) (f .ensures) z) (axisOf n) X p (levelOf (s .args .size)) (c .if3 .taken))
+    edge-refused tc tk x n p (s .args .size) (f .result) (f .ensures) z (omega arith)
+    (far-off tc tk x (is-accepted tc tk x n p (s .args .size) (f .result) (f .ensures) z) (axisOf n) X p (levelOf (s .args .size)) (c .if3 .taken))
 
 -- src/lib.rt:515:9
 returns-4 : tie.Need-returns-4
@@ -66,7 +67,8 @@ returns-4 c =
     let p : Place = record { x = s .args .x; y = s .args .y; z = s .args .z } in
     let f = c .before .before .before .before .refusal in
     let z = c .before .before .before .if1 .left in
-    edge-refused tc tk x n p (s .args .size) (f .result) (f .ensures) z (omega arith) (far-off tc tk x (is-accepted tc tk x n p (s .args .size) (f .result) (f .ensures) z) (axisOf n) Y p (levelOf (s .args .size)) (c .if4 .taken))
+    edge-refused tc tk x n p (s .args .size) (f .result) (f .ensures) z (omega arith)
+    (far-off tc tk x (is-accepted tc tk x n p (s .args .size) (f .result) (f .ensures) z) (axisOf n) Y p (levelOf (s .args .size)) (c .if4 .taken))
 
 -- src/lib.rt:518:9
 returns-5 : tie.Need-returns-5
@@ -79,7 +81,8 @@ returns-5 c =
     let p : Place = record { x = s .args .x; y = s .args .y; z = s .args .z } in
     let f = c .before .before .before .before .before .refusal in
     let z = c .before .before .before .before .if1 .left in
-    edge-refused tc tk x n p (s .args .size) (f .result) (f .ensures) z (omega arith) (far-off tc tk x (is-accepted tc tk x n p (s .args .size) (f .result) (f .ensures) z) (axisOf n) Z p (levelOf (s .args .size)) (c .if5 .taken))
+    edge-refused tc tk x n p (s .args .size) (f .result) (f .ensures) z (omega arith)
+    (far-off tc tk x (is-accepted tc tk x n p (s .args .size) (f .result) (f .ensures) z) (axisOf n) Z p (levelOf (s .args .size)) (c .if5 .taken))
 
 -- src/lib.rt:520:55
 cast-enquire-accepted : tie.Need-cast-enquire-accepted
@@ -121,7 +124,8 @@ returns-6 c =
     let p : Place = record { x = s .args .x; y = s .args .y; z = s .args .z } in
     let f = c .before .before .before .before .before .before .before .refusal in
     let z = c .before .before .before .before .before .before .if1 .left in
-    c .enquire-accepted .ensures ∙ ap (edgeAnswer tc tk x (axisOf n) p) (c .before .level-of .ensures) ∙ enquiry-answer tc tk x n p (s .args .size) (f .result) (f .ensures) z (omega arith)
+    c .enquire-accepted .ensures ∙ ap (edgeAnswer tc tk x (axisOf n) p) (c .before .level-of .ensures) ∙ enquiry-answer tc tk x n p (s .args .size)
+    (f .result) (f .ensures) z (omega arith)
 
 pub enquire-spec : {M : Type 1} → statement M
 enquire-spec =

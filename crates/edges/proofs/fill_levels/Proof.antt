@@ -30,8 +30,11 @@ abbrev μ-loop : tie.MeasureT-loop
 -- src/lib.rt:142:5
 loop-holds : tie.Need-loop-holds Inv-loop μ-loop
 loop-holds c =
-    let s = c .before .before .before .before .before .before in
-    (search needs, subst (λ es. Levels (placesOf (s .args .corners .now)) es (s .args .lowest .now) (s .args .highest .now)) (sym (none-left (s .args .cells .now) (s .args .corners .now) (s .pre .0))) (s .pre .1 .1 .1))
+    let s = c .before .before .before .before .before .before in (
+      search needs,
+      subst (λ es. Levels (placesOf (s .args .corners .now)) es (s .args .lowest .now) (s .args .highest .now))
+          (sym (none-left (s .args .cells .now) (s .args .corners .now) (s .pre .0))) (s .pre .1 .1 .1),
+    )
 
 -- src/lib.rt:143:9
 sub-i : tie.Need-sub-i Inv-loop μ-loop
@@ -57,9 +60,14 @@ note-cell-requires c κs =
     let tc = s .args .cells .now in
     let tk = s .args .corners .now in
     let v = l .loop .inv .1 in
-    let h : l .loop .i - 1 < length tc / 4 = omega arith in
-    (record { low-size = v .low .size; high-size = v .high .size; few = corners-few tc tk (s .pre .0); rises = rises-true tc tk (s .pre .0) },
-    (omega (arith, s .pre .1 .0 .entered (l .loop .i - 1) h .key, cell-key tc tk (s .pre .0) (l .loop .i - 1) h), omega (arith, s .pre .1 .0 .entered (l .loop .i - 1) h .level, cell-level tc tk (s .pre .0) (l .loop .i - 1) h)))
+    let h : l .loop .i - 1 < length tc / 4 = omega arith in (
+      record { low-size = v .low .size; high-size = v .high .size; few = corners-few tc tk (s .pre .0); rises = rises-true tc tk (s .pre .0) },
+      (
+        omega (arith, s .pre .1 .0 .entered (l .loop .i - 1) h .key, cell-key tc tk (s .pre .0) (l .loop .i - 1) h),
+        omega
+            (arith, s .pre .1 .0 .entered (l .loop .i - 1) h .level, cell-level tc tk (s .pre .0) (l .loop .i - 1) h),
+      ),
+    )
 
 -- src/lib.rt:142:5
 loop-less : tie.Need-loop-less Inv-loop μ-loop
@@ -74,10 +82,12 @@ loop-again c =
     let tk = s .args .corners .now in
     let i = l .loop .i - 1 in
     let h : i < length tc / 4 = omega arith in
-    let n = c .before .before .before .before .note-cell .ensures .1 (cellAt tc i) (s .pre .1 .0 .entered i h .key) (s .pre .1 .0 .entered i h .level) (cell-cornered tc tk (s .pre .0) i h) in
+    let n = c .before .before .before .before .note-cell .ensures .1 (cellAt tc i) (s .pre .1 .0 .entered i h .key) (s .pre .1 .0 .entered i h .level)
+    (cell-cornered tc tk (s .pre .0) i h) in
     let q : suc i ≡ l .loop .i = omega arith in
     let e : cellEdges (cellAt tc i) ++ edgesOf (drop (l .loop .i) (cellsOf tc)) ≡ edgesOf (drop i (cellsOf tc)) =
-    ap (λ m. cellEdges (cellAt tc i) ++ edgesOf (drop m (cellsOf tc))) (sym q) ∙ sym (edges-from (cellsOf tc) (cell origin 10 false) i (record-inside tc tk (s .pre .0) i h)) in
+    ap (λ m. cellEdges (cellAt tc i) ++ edgesOf (drop m (cellsOf tc))) (sym q) ∙ sym (edges-from (cellsOf tc) (cell origin 10 false) i
+    (record-inside tc tk (s .pre .0) i h)) in
     (omega arith, levels-same (placesOf tk) _ _ _ _ e (n .adds (edgesOf (drop (l .loop .i) (cellsOf tc))) (l .loop .inv .1)))
 
 -- src/lib.rt:135:1

@@ -11,10 +11,11 @@ use Rattle.edges.proofs.fill_twins.Statement.{statement}
 use Rattle.edges.proofs.fill_twins.Tie as tie
 use Rattle.edges.proofs.fill_twins.Reads as reads
 use Rattle.edges.proofs.fill_twins.Lts as lts
-use Rattle.edges.proofs.twin_of.Reads as twin-of-reads
+use Rattle.edges.proofs.pairs.twin_of.Reads as twin-of-reads
 
 abbrev Inv-loop : tie.InvT-loop
-Inv-loop cells corners clearance wets lowest highest numbers slots n twins₀ v₀ twins v = (v ≤ n) × (n ≤ 14616) × (length twins ≡ 14616) × ((j : ℕ) → j < v → getD twins j 0 ≡ twinOf (surveyOf cells corners clearance) j)
+Inv-loop cells corners clearance wets lowest highest numbers slots n twins₀ v₀ twins v = (v ≤ n) × (n ≤ 14616) × (length twins ≡ 14616) ×
+    ((j : ℕ) → j < v → getD twins j 0 ≡ twinOf (surveyOf cells corners clearance) j)
 
 abbrev μ-loop : tie.MeasureT-loop
 μ-loop cells corners clearance wets lowest highest numbers slots n twins₀ v₀ twins v = n - v
@@ -73,9 +74,12 @@ loop-again c =
     let last = s .pre .1 .1 .1 .1 .1 .1 in
     let few = points-few tc tk x (s .pre .0) (s .args .lowest .now) low in
     let same = points-slots tc tk x (s .pre .0) (s .args .lowest .now) low in
-    let l = c .before .before in
-    (omega arith, omega arith, simp length-set (l .loop .inv .2),
-    filled-more (twinOf (surveyOf tc tk x)) (l .loop .twins) (l .loop .v) (c .twin-of .result) (omega arith) (l .loop .inv .3) (c .twin-of .ensures))
+    let l = c .before .before in (
+      omega arith,
+      omega arith,
+      simp length-set (l .loop .inv .2),
+      filled-more (twinOf (surveyOf tc tk x)) (l .loop .twins) (l .loop .v) (c .twin-of .result) (omega arith) (l .loop .inv .3) (c .twin-of .ensures),
+    )
 
 -- src/lib.rt:380:1
 same-length : tie.Need-same-length Inv-loop μ-loop

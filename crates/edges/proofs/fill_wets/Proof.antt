@@ -10,7 +10,7 @@ use Rattle.edges.proofs.fill_wets.Statement.{statement}
 use Rattle.edges.proofs.fill_wets.Tie as tie
 use Rattle.edges.proofs.fill_wets.Reads as reads
 use Rattle.edges.proofs.fill_wets.Lts as lts
-use Rattle.edges.proofs.mark.Reads as mark-reads
+use Rattle.edges.proofs.keys.mark.Reads as mark-reads
 use Rattle.records.proofs.corner_at.Reads as corner-at-reads
 use Rattle.records.proofs.is_wet.Reads as is-wet-reads
 
@@ -54,9 +54,12 @@ loop-again : tie.Need-loop-again Inv-loop μ-loop
 loop-again c =
     let l = c .before .before .before .before in
     let s = l .before .before .before in
-    let f : ℕ → ℕ = λ j. bit (wet (s .args .clearance) (cornerRecord (s .args .corners .now) j)) in
-    (omega arith, simp length-set (l .loop .inv .1),
-    filled-more f (l .loop .wets) (l .loop .k) (c .mark .result) (omega arith) (l .loop .inv .2) (c .mark .ensures ∙ ap bit (c .before .is-wet .ensures ∙ ap (wet (s .args .clearance)) (c .before .before .corner-at .ensures))))
+    let f : ℕ → ℕ = λ j. bit (wet (s .args .clearance) (cornerRecord (s .args .corners .now) j)) in (
+      omega arith,
+      simp length-set (l .loop .inv .1),
+      filled-more f (l .loop .wets) (l .loop .k) (c .mark .result) (omega arith) (l .loop .inv .2)
+          (c .mark .ensures ∙ ap bit (c .before .is-wet .ensures ∙ ap (wet (s .args .clearance)) (c .before .before .corner-at .ensures))),
+    )
 
 -- src/lib.rt:149:1
 same-length : tie.Need-same-length Inv-loop μ-loop
@@ -67,7 +70,8 @@ returns : tie.Need-returns Inv-loop μ-loop
 returns c =
     let l = c .before in
     let s = l .before .before .before in
-    wets-done (s .args .corners .now) (l .before .before .shared-slice-known .given) (s .pre .0) (s .args .clearance) (l .loop .wets) (l .loop .inv .1) (λ k h. l .loop .inv .2 k (omega arith))
+    wets-done (s .args .corners .now) (l .before .before .shared-slice-known .given) (s .pre .0) (s .args .clearance) (l .loop .wets) (l .loop .inv .1)
+    (λ k h. l .loop .inv .2 k (omega arith))
 
 pub fill-wets-spec : {M : Type 1} → statement M
 fill-wets-spec =

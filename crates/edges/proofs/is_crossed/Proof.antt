@@ -6,13 +6,14 @@ use Rattle.edges.proofs.is_crossed.Statement.{statement}
 use Rattle.edges.proofs.is_crossed.Tie as tie
 use Rattle.edges.proofs.is_crossed.Reads as reads
 use Rattle.edges.proofs.is_crossed.Lts as lts
-use Rattle.edges.proofs.is_odd.Reads as is-odd-reads
+use Rattle.edges.proofs.ends.is_odd.Reads as is-odd-reads
 
 -- src/lib.rt:191:9
 returns : tie.Need-returns
 returns c =
     let s = c .before .before .before .before .before in
-    sym (outside (s .args .cells .now) (s .args .corners .now) (s .args .clearance) (s .pre .0) (s .args .lowest .now) (s .pre .1 .1 .0) (s .args .slot) (s .pre .1 .1 .1) (c .if1 .taken))
+    sym (outside (s .args .cells .now) (s .args .corners .now) (s .args .clearance) (s .pre .0) (s .args .lowest .now) (s .pre .1 .1 .0) (s .args .slot)
+    (s .pre .1 .1 .1) (c .if1 .taken))
 
 -- src/lib.rt:193:17
 shared-slice-read-level : tie.Need-shared-slice-read-level
@@ -22,7 +23,8 @@ shared-slice-read-level c = search needs
 returns-2 : tie.Need-returns-2
 returns-2 c =
     let s = c .before .before .before .before .before .before .before in
-    sym (empty (s .args .cells .now) (s .args .corners .now) (s .args .clearance) (s .pre .0) (s .args .lowest .now) (s .pre .1 .1 .0) (s .args .slot) (s .pre .1 .1 .1) (omega arith) (c .if2 .taken))
+    sym (empty (s .args .cells .now) (s .args .corners .now) (s .args .clearance) (s .pre .0) (s .args .lowest .now) (s .pre .1 .1 .0) (s .args .slot)
+    (s .pre .1 .1 .1) (omega arith) (c .if2 .taken))
 
 -- src/lib.rt:197:38
 cast-is-odd : tie.Need-cast-is-odd
@@ -33,15 +35,25 @@ is-odd-requires : tie.Need-is-odd-requires
 is-odd-requires c κs =
     let s = c .before .before .before .before .before .before .before in
     let tc = s .args .cells .now in
-    let tk = s .args .corners .now in
-    (corners tc tk (s .args .clearance) (s .pre .0), (s .pre .1 .0, (omega arith, omega arith,
-    upper-known tc tk (s .args .clearance) (s .pre .0) (s .args .lowest .now) (s .pre .1 .1 .0) (s .args .slot) (s .pre .1 .1 .1) (omega arith) (omega arith))))
+    let tk = s .args .corners .now in (
+      corners tc tk (s .args .clearance) (s .pre .0),
+      (
+        s .pre .1 .0,
+        (
+          omega arith,
+          omega arith,
+          upper-known tc tk (s .args .clearance) (s .pre .0) (s .args .lowest .now) (s .pre .1 .1 .0) (s .args .slot) (s .pre .1 .1 .1) (omega arith)
+              (omega arith),
+        ),
+      ),
+    )
 
 -- src/lib.rt:182:1
 returns-3 : tie.Need-returns-3
 returns-3 c =
     let s = c .before .before .before .before .before .before .before .before in
-    c .is-odd .ensures ∙ sym (crossed-odd (s .args .cells .now) (s .args .corners .now) (s .args .clearance) (s .pre .0) (s .args .lowest .now) (s .pre .1 .1 .0) (s .args .slot) (s .pre .1 .1 .1) (omega arith) (omega arith))
+    c .is-odd .ensures ∙ sym (crossed-odd (s .args .cells .now) (s .args .corners .now) (s .args .clearance) (s .pre .0) (s .args .lowest .now)
+    (s .pre .1 .1 .0) (s .args .slot) (s .pre .1 .1 .1) (omega arith) (omega arith))
 
 pub is-crossed-spec : {M : Type 1} → statement M
 is-crossed-spec =

@@ -10,9 +10,9 @@ use Rattle.edges.proofs.note_axis.Statement.{statement}
 use Rattle.edges.proofs.note_axis.Tie as tie
 use Rattle.edges.proofs.note_axis.Reads as reads
 use Rattle.edges.proofs.note_axis.Lts as lts
-use Rattle.edges.proofs.after.Reads as after-reads
+use Rattle.edges.proofs.keys.after.Reads as after-reads
 use Rattle.edges.proofs.note_edge.Reads as note-edge-reads
-use Rattle.edges.proofs.step.Reads as step-reads
+use Rattle.edges.proofs.keys.step.Reads as step-reads
 
 -- src/lib.rt:100:9
 after-requires : tie.Need-after-requires
@@ -44,11 +44,17 @@ note-edge-requires-2 c κs = search needs
 
 -- src/lib.rt:106:5
 note-edge-requires-3 : tie.Need-note-edge-requires-3
-note-edge-requires-3 c κs = (c .before .before .before .before .before .before .note-edge2 .ensures .0, c .before .before .before .before .before .before .before .before .before .before .before .before .before .before .before .before .before .before .before .before .before .before .before .before .pre .1 .0)
+note-edge-requires-3 c κs = (
+  c .before .before .before .before .before .before .note-edge2 .ensures .0,
+  c .before .before .before .before .before .before .before .before .before .before .before .before .before .before .before .before .before .before .before .before .before .before .before .before .pre .1 .0,
+)
 
 -- src/lib.rt:107:5
 note-edge-requires-4 : tie.Need-note-edge-requires-4
-note-edge-requires-4 c κs = (c .before .before .before .before .before .before .note-edge3 .ensures .0, c .before .before .before .before .before .before .before .before .before .before .before .before .before .before .before .before .before .before .before .before .before .before .before .before .before .before .before .before .before .before .before .pre .1 .0)
+note-edge-requires-4 c κs = (
+  c .before .before .before .before .before .before .note-edge3 .ensures .0,
+  c .before .before .before .before .before .before .before .before .before .before .before .before .before .before .before .before .before .before .before .before .before .before .before .before .before .before .before .before .before .before .before .pre .1 .0,
+)
 
 -- src/lib.rt:93:1
 same-length : tie.Need-same-length
@@ -68,18 +74,20 @@ returns c =
     let far = e1 .before .before .before in
     let s = far .before .before .before .before .before .before .before .before in
     let second = far .before .before .before .before .after .ensures .0 in
-    let third = far .before .before .after2 .ensures .0 ∙ ap next second in
-    (e4 .note-edge4 .ensures .0, λ d k l u.
-    let right-key = key-stepped _ _ _ _ _ (d .low) d (far .before .before .before .step .ensures .0) second k l in
-    let up-key = key-stepped _ _ _ _ _ (d .low) d (far .before .step2 .ensures .0) third k l in
-    let far-key = key-stepped _ _ _ _ _ (move (next (next (axisOf (s .args .axis)))) (size d) (d .low)) d (far .step3 .ensures .0) second up-key l in
-    let a = axisOf (s .args .axis) in
-    let places = placesOf (s .args .corners .now) in
-    axis-noted places d a (s .args .level) l _ _ _ _ _ _ _ _ _ _
-    (e1 .note-edge .ensures .1 _ far-key (far-listed places d a u))
-    (e2 .note-edge2 .ensures .1 _ up-key (up-listed places d a u))
-    (e3 .note-edge3 .ensures .1 _ right-key (right-listed places d a u))
-    (e4 .note-edge4 .ensures .1 _ k (low-listed places d a u)))
+    let third = far .before .before .after2 .ensures .0 ∙ ap next second in (
+      e4 .note-edge4 .ensures .0,
+      λ d k l u.
+          let right-key = key-stepped _ _ _ _ _ (d .low) d (far .before .before .before .step .ensures .0) second k l in
+          let up-key = key-stepped _ _ _ _ _ (d .low) d (far .before .step2 .ensures .0) third k l in
+          let far-key = key-stepped _ _ _ _ _ (move (next (next (axisOf (s .args .axis)))) (size d) (d .low)) d (far .step3 .ensures .0) second up-key l in
+          let a = axisOf (s .args .axis) in
+          let places = placesOf (s .args .corners .now) in
+          axis-noted places d a (s .args .level) l _ _ _ _ _ _ _ _ _ _
+          (e1 .note-edge .ensures .1 _ far-key (far-listed places d a u))
+          (e2 .note-edge2 .ensures .1 _ up-key (up-listed places d a u))
+          (e3 .note-edge3 .ensures .1 _ right-key (right-listed places d a u))
+          (e4 .note-edge4 .ensures .1 _ k (low-listed places d a u)),
+    )
 
 pub note-axis-spec : {M : Type 1} → statement M
 note-axis-spec =

@@ -31,8 +31,11 @@ returns : tie.Need-returns
 returns c =
     let x = c .before .before .before .before in
     let y = x .before .before .before .before .before .before .before in
-    let z = y .before .before .before .before .before .before .before in
-    (x .note-axis3 .ensures .0, λ d k l u. cell-noted _ d _ _ _ _ _ _ _ _ (z .note-axis .ensures .1 d k l u) (y .note-axis2 .ensures .1 d k l u) (x .note-axis3 .ensures .1 d k l u))
+    let z = y .before .before .before .before .before .before .before in (
+      x .note-axis3 .ensures .0,
+      λ d k l u. cell-noted _ d _ _ _ _ _ _ _ _ (z .note-axis .ensures .1 d k l u) (y .note-axis2 .ensures .1 d k l u)
+          (x .note-axis3 .ensures .1 d k l u),
+    )
 
 pub note-cell-spec : {M : Type 1} → statement M
 note-cell-spec =

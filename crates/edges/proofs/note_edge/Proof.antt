@@ -9,8 +9,8 @@ use Rattle.edges.proofs.note_edge.Statement.{statement}
 use Rattle.edges.proofs.note_edge.Tie as tie
 use Rattle.edges.proofs.note_edge.Reads as reads
 use Rattle.edges.proofs.note_edge.Lts as lts
-use Rattle.edges.proofs.higher.Reads as higher-reads
-use Rattle.edges.proofs.lower.Reads as lower-reads
+use Rattle.edges.proofs.keys.higher.Reads as higher-reads
+use Rattle.edges.proofs.keys.lower.Reads as lower-reads
 use Rattle.records.proofs.find.Reads as find-reads
 
 -- src/lib.rt:73:9
@@ -21,8 +21,14 @@ find-requires c κs = search needs
 returns : tie.Need-returns
 returns c =
     let s = c .before .before .before .before .before in
-    let t = s .args .corners .now in
-    (s .pre .0, λ p e u. absurd (omega (arith, found t (c .before .before .before .before .shared-slice-known .given) (s .pre .0 .rises) p u .0, c .before .find .ensures ∙ ap (recordAt t) e)))
+    let t = s .args .corners .now in (
+      s .pre .0,
+      λ p e u. absurd (omega (
+        arith,
+        found t (c .before .before .before .before .shared-slice-known .given) (s .pre .0 .rises) p u .0,
+        c .before .find .ensures ∙ ap (recordAt t) e,
+      )),
+    )
 
 -- src/lib.rt:77:14
 mul-at : tie.Need-mul-at
@@ -73,8 +79,8 @@ returns-2 c =
     let sizes = s .pre .0 in (
       record { low-size = simp length-set (sizes .low-size); high-size = simp length-set (sizes .high-size); few = sizes .few; rises = sizes .rises },
       λ p e u. note-found t (f .before .before .before .shared-slice-known .given) (sizes .rises) (sizes .few) p (s .args .key) e u
-      (s .args .axis) (s .args .level) (s .pre .1) _ _ (f .find .result) (c .before .before .lower .result) (c .higher .result)
-      (f .find .ensures) (c .before .before .lower .ensures) (c .higher .ensures),
+          (s .args .axis) (s .args .level) (s .pre .1) _ _ (f .find .result) (c .before .before .lower .result) (c .higher .result)
+          (f .find .ensures) (c .before .before .lower .ensures) (c .higher .ensures),
     )
 
 pub note-edge-spec : {M : Type 1} → statement M

@@ -58,7 +58,8 @@ loop-again c =
     let l = c .before .before .before .before .before .before in
     let s = l .before .before .before .before .before .before .before in
     number-next (surveyOf (s .args .cells .now) (s .args .corners .now) (s .args .clearance)) _ _ _ _ (l .loop .inv) (omega arith)
-    (c .before .before .before .is-crossed .result) (c .before .before .before .is-crossed .ensures) _ (c .before .before .enter .ensures .0) _ (c .before .before .enter .ensures .1)
+    (c .before .before .before .is-crossed .result) (c .before .before .before .is-crossed .ensures) _ (c .before .before .enter .ensures .0) _
+    (c .before .before .enter .ensures .1)
 
 -- src/lib.rt:213:1
 same-length : tie.Need-same-length Inv-loop μ-loop

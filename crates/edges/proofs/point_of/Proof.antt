@@ -14,12 +14,13 @@ use Rattle.edges.proofs.point_of.Statement.{statement}
 use Rattle.edges.proofs.point_of.Tie as tie
 use Rattle.edges.proofs.point_of.Reads as reads
 use Rattle.edges.proofs.point_of.Lts as lts
-use Rattle.edges.proofs.odd_half.Reads as odd-half-reads
+use Rattle.edges.proofs.ends.odd_half.Reads as odd-half-reads
 
 abbrev Inv-loop : tie.InvT-loop
 Inv-loop cells corners clearance wets lowest numbers axis start top k₀ level₀ k level =
     (k < 4872) × OddEdge cells corners clearance (axisOf axis) k level ×
-    (carrier (surveyOf cells corners clearance) (axisOf axis) (placeAt (placesOf corners) k) level ≡ carrier (surveyOf cells corners clearance) (axisOf axis) (placeAt (placesOf corners) start) top)
+    (carrier (surveyOf cells corners clearance) (axisOf axis) (placeAt (placesOf corners) k) level ≡ carrier (surveyOf cells corners clearance)
+    (axisOf axis) (placeAt (placesOf corners) start) top)
 
 abbrev μ-loop : tie.MeasureT-loop
 μ-loop cells corners clearance wets lowest numbers axis start top k₀ level₀ k level = level
@@ -58,9 +59,19 @@ odd-half-requires c κs =
     let tk = s .args .corners .now in
     let o = l .loop .inv .1 in
     let q : l .loop .level ≡ suc (l .loop .level - 1) = omega arith in
-    let top = odd-level tc tk (s .args .clearance) (s .pre .0) (s .args .lowest .now) (s .pre .1 .1 .0) (s .args .axis) (s .pre .1 .1 .1 .1 .0) (l .loop .k) (l .loop .level) o in
-    (corners tc tk (s .args .clearance) (s .pre .0), (s .pre .1 .0, (o .inside, omega arith,
-    middle-listed tc tk (s .args .clearance) (s .pre .0) (s .args .lowest .now) (s .pre .1 .1 .0) (s .args .axis) (s .pre .1 .1 .1 .1 .0) (l .loop .k) (l .loop .level) (l .loop .level - 1) q o (c .if1 .taken))))
+    let top = odd-level tc tk (s .args .clearance) (s .pre .0) (s .args .lowest .now) (s .pre .1 .1 .0) (s .args .axis) (s .pre .1 .1 .1 .1 .0) (l .loop .k)
+    (l .loop .level) o in (
+      corners tc tk (s .args .clearance) (s .pre .0),
+      (
+        s .pre .1 .0,
+        (
+          o .inside,
+          omega arith,
+          middle-listed tc tk (s .args .clearance) (s .pre .0) (s .args .lowest .now) (s .pre .1 .1 .0) (s .args .axis) (s .pre .1 .1 .1 .1 .0) (l .loop .k)
+              (l .loop .level) (l .loop .level - 1) q o (c .if1 .taken),
+        ),
+      ),
+    )
 
 -- src/lib.rt:259:5
 loop-less : tie.Need-loop-less Inv-loop μ-loop
@@ -75,7 +86,8 @@ loop-again c =
     let tk = s .args .corners .now in
     let o = l .loop .inv .1 in
     let q : l .loop .level ≡ suc (l .loop .level - 1) = omega arith in
-    let d = down tc tk (s .args .clearance) (s .pre .0) (s .args .lowest .now) (s .pre .1 .1 .0) (s .args .axis) (s .pre .1 .1 .1 .1 .0) (l .loop .k) (l .loop .level) (l .loop .level - 1) q o
+    let d = down tc tk (s .args .clearance) (s .pre .0) (s .args .lowest .now) (s .pre .1 .1 .0) (s .args .axis) (s .pre .1 .1 .1 .1 .0) (l .loop .k)
+    (l .loop .level) (l .loop .level - 1) q o
     (c .before .if1 .taken) (l .before .before .before .before .shared-slice-known2 .given) (c .odd-half .result) (c .odd-half .ensures) in
     (omega (arith, d .0 .inside, corners tc tk (s .args .clearance) (s .pre .0) .few), d .0, d .1 ∙ l .loop .inv .2)
 
@@ -102,7 +114,8 @@ returns c =
     let s = l .before .before .before .before .before .before in
     let tc = s .args .cells .now in
     let tk = s .args .corners .now in
-    point-found tc tk (s .args .clearance) (s .pre .0) (s .args .lowest .now) (s .pre .1 .1 .0) (s .args .axis) (s .pre .1 .1 .1 .1 .0) (l .loop .k) (l .loop .level) (s .args .start) (s .args .top)
+    point-found tc tk (s .args .clearance) (s .pre .0) (s .args .lowest .now) (s .pre .1 .1 .0) (s .args .axis) (s .pre .1 .1 .1 .1 .0) (l .loop .k)
+    (l .loop .level) (s .args .start) (s .args .top)
     (l .loop .inv .1) (omega arith) (s .args .numbers .now) (s .pre .1 .1 .1 .0) (l .loop .inv .2)
 
 pub point-of-spec : {M : Type 1} → statement M

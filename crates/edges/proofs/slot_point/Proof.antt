@@ -13,7 +13,7 @@ use Rattle.edges.proofs.slot_point.Statement.{statement}
 use Rattle.edges.proofs.slot_point.Tie as tie
 use Rattle.edges.proofs.slot_point.Reads as reads
 use Rattle.edges.proofs.slot_point.Lts as lts
-use Rattle.edges.proofs.edge_point.Reads as edge-point-reads
+use Rattle.edges.proofs.ends.edge_point.Reads as edge-point-reads
 
 -- src/lib.rt:418:36
 cast-edge-point : tie.Need-cast-edge-point

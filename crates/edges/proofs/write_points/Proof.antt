@@ -89,8 +89,17 @@ slot-point-requires c κs =
     let few = points-few tc tk x (s .pre .0) (s .args .lowest .now) low in
     let same = points-slots tc tk x (s .pre .0) (s .args .lowest .now) low in
     let l = c .before .before .before in
-    let h : l .loop .v < length (slotsBelow (surveyOf tc tk x) 14616) = omega (arith, same, last .0) in
-    (s .pre .0, (low, (slot-inside tc tk x (s .pre .0) (s .args .lowest .now) low (s .args .slots .now) at (l .loop .v) h, slot-crossed tc tk x (s .pre .0) (s .args .lowest .now) low (s .args .slots .now) at (l .loop .v) h)))
+    let h : l .loop .v < length (slotsBelow (surveyOf tc tk x) 14616) = omega (arith, same, last .0) in (
+      s .pre .0,
+      (
+        low,
+        (
+          slot-inside tc tk x (s .pre .0) (s .args .lowest .now) low (s .args .slots .now) at (l .loop .v) h,
+          slot-crossed tc tk x (s .pre .0)
+              (s .args .lowest .now) low (s .args .slots .now) at (l .loop .v) h,
+        ),
+      ),
+    )
 
 -- src/lib.rt:431:9
 put-point-requires : tie.Need-put-point-requires Inv-loop μ-loop
@@ -132,10 +141,15 @@ loop-again c =
     let es : List CellEdge = pointEdges (surveyOf tc tk x) in
     let d : CellEdge = edge X origin 0 in
     let p = c .before .before .before .slot-point in
-    let e = c .before .before .put-point .ensures in
-    (omega arith, omega arith, ap length e ∙ stored-length (l .loop .points) (l .loop .v) (asSpot (p .result)) ∙ l .loop .inv .2,
-    e ∙ ap (withSpot (l .loop .points) (l .loop .v)) (p .ensures ∙ ap f (sym (point-edge-is tc tk x (s .pre .0) (s .args .lowest .now) low (s .args .slots .now) at (l .loop .v) h d))) ∙
-    written-turn f es (l .loop .v) d (s .args .points .now) (l .loop .points) (omega (arith, last .0)) (omega (arith, last .0, last .1)) (l .loop .inv .3))
+    let e = c .before .before .put-point .ensures in (
+      omega arith,
+      omega arith,
+      ap length e ∙ stored-length (l .loop .points) (l .loop .v) (asSpot (p .result)) ∙ l .loop .inv .2,
+      e ∙ ap (withSpot (l .loop .points) (l .loop .v)) (p .ensures ∙ ap f
+          (sym (point-edge-is tc tk x (s .pre .0) (s .args .lowest .now) low (s .args .slots .now) at (l .loop .v) h d))) ∙
+          written-turn f es (l .loop .v) d (s .args .points .now) (l .loop .points) (omega (arith, last .0)) (omega (arith, last .0, last .1))
+          (l .loop .inv .3),
+    )
 
 -- src/lib.rt:422:1
 same-length : tie.Need-same-length Inv-loop μ-loop
@@ -156,7 +170,8 @@ returns c =
     let l = c .before in
     let es : List CellEdge = pointEdges (surveyOf tc tk x) in
     written-points tc tk x (s .args .points .now) (l .loop .points)
-    (l .loop .inv .3 ∙ ap (λ (fs : List CellEdge). written (floats (spotOn (cornersOf tk) x) fs) (s .args .points .now)) (take-all (l .loop .v) es (omega (arith, last .0))))
+    (l .loop .inv .3 ∙ ap (λ (fs : List CellEdge). written (floats (spotOn (cornersOf tk) x) fs) (s .args .points .now))
+    (take-all (l .loop .v) es (omega (arith, last .0))))
 
 pub write-points-spec : {M : Type 1} → statement M
 write-points-spec =

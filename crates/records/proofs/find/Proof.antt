@@ -1,9 +1,8 @@
 -- `records::find` meets its contract: before each turn the records below `low` have smaller keys, and those from `high` on keys that are no smaller.
 use native.Mathlib.Omega.{arith}
-use mathlib.Core.Path.{_∙_, sym}
+use mathlib.Core.Path.{_∙_}
 use Rattle.records.proofs.Search.{below-middle, from-middle, is-at, is-nowhere}
 use Prim.Native.Nat.{ℕ, _+_, _-_, _/_, _≤_, _<_}
-use mathlib.Core.Path.{_≡_}
 use Rattle.records.proofs.Search.{keyAt}
 use borrow.Author.Needs.{needs}
 use Rattle.records.proofs.find.Statement.{statement}

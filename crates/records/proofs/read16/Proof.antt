@@ -1,5 +1,4 @@
 -- `records::read16` meets its contract: a number of two bytes.
-use native.Mathlib.Omega.{arith}
 use Rattle.records.proofs.Bytes.{little-two}
 use borrow.Author.Needs.{needs}
 use Rattle.records.proofs.read16.Statement.{statement}

@@ -1,0 +1,117 @@
+// The enquiry of an accepted survey, from the tables.
+ghost use mathlib.Core.Path.{_≡_};
+ghost use mathlib.Core.Bool.{true};
+ghost use Prim.Native.Nat.{_+_, _*_, _/_, _<_};
+ghost use Rattle.base.specs.Grid.{axisOf};
+ghost use Rattle.rules.specs.Outputs.{accepted, surveyOf};
+ghost use Rattle.edges.specs.Tables.{Lowest, Highest, Wets, Numbers, Slots};
+ghost use Rattle.rules.specs.Outputs.{enquiry};
+ghost use Rattle.edges.specs.Enquiry.{edgeAnswer};
+use super::ends;
+use rules::Answer;
+use rules::Edge;
+
+// The answer of the enquiry from the tables.
+pub fn edge_answer(
+    cells: &[u8],
+    corners: &[u8],
+    clearance: f32,
+    wets: &[u8],
+    lowest: &[u8],
+    highest: &[u8],
+    numbers: &[u16],
+    slots: &[u16],
+    axis: u32,
+    x: u16,
+    y: u16,
+    z: u16,
+    level: u8,
+) -> Answer
+    requires { ⌜ accepted (now cells) (now corners) clearance ≡ true ⌝ }
+    requires { ⌜ Wets (now corners) clearance (now wets) ⌝ }
+    requires { ⌜ Lowest (now cells) (now corners) (now lowest) ⌝ }
+    requires { ⌜ Highest (now cells) (now corners) (now highest) ⌝ }
+    requires { ⌜ Numbers (surveyOf (now cells) (now corners) clearance) (now numbers) ⌝ }
+    requires { ⌜ Slots (surveyOf (now cells) (now corners) clearance) (now slots) ⌝ }
+    requires { ⌜ axis < 3 ⌝ }
+    ensures { λ r. ⌜ r ≡ edgeAnswer (now (cells .entry)) (now (corners .entry)) clearance (axisOf axis) (record { x = x; y = y; z = z }) level ⌝ }
+{
+    let key = (x as u64) + 65536 * (y as u64) + 4294967296 * (z as u64);
+    let k = crate::edge_record(cells, corners, clearance, lowest, highest, axis, key, level);
+    if k >= corners.len() / 10 {
+        return Answer::Refused(11);
+    }
+    if ends::is_odd(corners, clearance, wets, axis, k, level) {
+        let n = crate::point_of(
+            cells,
+            corners,
+            clearance,
+            wets,
+            lowest,
+            numbers,
+            axis,
+            k,
+            level,
+        );
+        let p = crate::slot_point(
+            cells,
+            corners,
+            clearance,
+            lowest,
+            slots[n as usize] as usize,
+        );
+        return Answer::Found(Edge::Crossing(n as u32, p.x, p.y, p.z));
+    }
+    Answer::Found(Edge::Even)
+}
+
+// The enquiry of an accepted survey: the tables, and the answer from them.
+pub fn enquire_accepted(
+    cells: &[u8],
+    corners: &[u8],
+    clearance: f32,
+    axis: u32,
+    x: u16,
+    y: u16,
+    z: u16,
+    level: u8,
+) -> Answer
+    requires { ⌜ accepted (now cells) (now corners) clearance ≡ true ⌝ }
+    requires { ⌜ axis < 3 ⌝ }
+    ensures { λ r. ⌜ r ≡ edgeAnswer (now (cells .entry)) (now (corners .entry)) clearance (axisOf axis) (record { x = x; y = y; z = z }) level ⌝ }
+{
+    let mut keys = [0u64; 2049];
+    let mut levels = [0u8; 2049];
+    let mut lowest = [11u8; 14616];
+    let mut highest = [0u8; 14616];
+    let mut wets = [0u8; 4872];
+    let mut numbers = [0u16; 14616];
+    let mut slots = [0u16; 14616];
+    let deep = cells::lay_out(cells, cells.len() / 4, &mut keys, &mut levels);
+    crate::fill_levels(cells, corners, &keys, &levels, &mut lowest, &mut highest);
+    crate::fill_wets(corners, clearance, &mut wets);
+    let n = crate::number_slots(
+        cells,
+        corners,
+        clearance,
+        &wets,
+        &lowest,
+        &mut numbers,
+        &mut slots,
+    );
+    edge_answer(
+        cells,
+        corners,
+        clearance,
+        &wets,
+        &lowest,
+        &highest,
+        &numbers,
+        &slots,
+        axis,
+        x,
+        y,
+        z,
+        level,
+    )
+}

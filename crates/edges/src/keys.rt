@@ -1,0 +1,98 @@
+// Levels, lengths and keys as numbers.
+ghost use mathlib.Core.Path.{_≡_};
+ghost use mathlib.Core.Bool.{true};
+ghost use Prim.Native.Nat.{_+_, _-_, _*_, _^_, _≤_, _<_, min, max};
+ghost use lib.ListN.{length};
+ghost use Rattle.base.specs.Lists.{bit};
+ghost use Rattle.base.specs.Grid.{axisOf, next};
+ghost use Rattle.rules.specs.Edges.{edge};
+ghost use Rattle.edges.specs.Noting.{keyUnit};
+ghost use Rattle.rules.specs.Outputs.{levelOf};
+
+// The lower of two levels.
+pub fn lower(a: u8, b: u8) -> u8
+    ensures { λ r. ⌜ r ≡ min a b ⌝ }
+{
+    if a < b {
+        return a;
+    }
+    b
+}
+
+// The higher of two levels.
+pub fn higher(a: u8, b: u8) -> u8
+    ensures { λ r. ⌜ r ≡ max a b ⌝ }
+{
+    if a < b {
+        return b;
+    }
+    a
+}
+
+// How much a step of 1 on an axis adds to the key of a place.
+pub fn unit(axis: u32) -> u64
+    ensures { λ r. ⌜ (r ≡ keyUnit (axisOf axis)) × (r ≤ 4294967296) ⌝ }
+{
+    if axis == 0 {
+        return 1;
+    }
+    if axis == 1 {
+        return 65536;
+    }
+    4294967296
+}
+
+// The axis that follows another: after z comes x again.
+pub fn after(axis: u32) -> u32
+    ensures { λ r. ⌜ (axisOf r ≡ next (axisOf axis)) × (r < 3) ⌝ }
+{
+    if axis == 0 {
+        return 1;
+    }
+    if axis == 1 {
+        return 2;
+    }
+    0
+}
+
+// The key of the place that is the length of an edge of this level further on an axis.
+pub fn step(key: u64, axis: u32, level: u8) -> u64
+    requires { ⌜ (key ≤ 281474976710656) × (level ≤ 10) ⌝ }
+    ensures { λ r. ⌜ (r ≡ key + 2 ^ level * keyUnit (axisOf axis)) × (r ≤ key + 4398046511104) ⌝ }
+{
+    key + cells::size_of(level) * unit(axis)
+}
+
+// 1 for true, 0 for false.
+pub fn mark(wet: bool) -> u8
+    ensures { λ r. ⌜ r ≡ bit wet ⌝ }
+{
+    if wet {
+        return 1;
+    }
+    0
+}
+
+// The key of the place that is the length of an edge of this level back on an axis.
+pub fn step_back(key: u64, axis: u32, level: u8) -> u64
+    requires { ⌜ (2 ^ level * keyUnit (axisOf axis) ≤ key) × (level ≤ 10) ⌝ }
+    ensures { λ r. ⌜ r ≡ key - 2 ^ level * keyUnit (axisOf axis) ⌝ }
+{
+    key - cells::size_of(level) * unit(axis)
+}
+
+// The level of an edge of this length, or 11, which no edge has.
+pub fn level_of(size: u32) -> u8
+    ensures { λ r. ⌜ r ≡ levelOf size ⌝ }
+{
+    let mut level: u8 = 0;
+    let mut power: u32 = 1;
+    while level < 11 {
+        if power == size {
+            return level;
+        }
+        power *= 2;
+        level += 1;
+    }
+    11
+}

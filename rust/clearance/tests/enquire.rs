@@ -1,0 +1,125 @@
+//! The compiled enquiry against the independent Rust drawing's, bit for bit: on every edge and on many that no cell has, and on places of random
+//! soundings. Each failure names the seed that makes the survey again.
+
+use clearance::Edge;
+use surveys::{damage, document, generate, Survey};
+
+/// The answer as numbers, floats by their bits.
+fn numbers(answer: Result<Edge, u32>) -> [u32; 5] {
+    match answer {
+        Err(number) => [number, 0, 0, 0, 0],
+        Ok(Edge::Even) => [0, 0, 0, 0, 0],
+        Ok(Edge::Crossing { number, place: [x, y, z] }) => {
+            [0, 1 + number, x.to_bits(), y.to_bits(), z.to_bits()]
+        }
+    }
+}
+
+fn drawings(answer: Result<drawing::Edge, u32>) -> Result<Edge, u32> {
+    answer.map(|edge| match edge {
+        drawing::Edge::Even => Edge::Even,
+        drawing::Edge::Crossing { number, place } => Edge::Crossing { number, place },
+    })
+}
+
+fn assert_same(survey: &Survey, axis: u32, lower_end: [u32; 3], length: u32, what: &str) -> [u32; 5] {
+    let Survey { cells, corners, clearance } = survey;
+    let [x, y, z] = lower_end;
+    let answer = numbers(clearance::enquire(cells, corners, *clearance, axis, lower_end, length));
+    let expected = numbers(drawings(drawing::enquire(cells, corners, *clearance, axis, x, y, z, length)));
+    assert_eq!(answer, expected, "{what}: axis {axis}, lower end {lower_end:?}, length {length}");
+    answer
+}
+
+/// The places of the corner records.
+fn places(survey: &Survey) -> impl Iterator<Item = [u32; 3]> + '_ {
+    survey
+        .corners
+        .chunks_exact(10)
+        .map(|record| [0, 2, 4].map(|at| u32::from(u16::from_le_bytes([record[at], record[at + 1]]))))
+}
+
+#[test]
+fn the_quarter_place() {
+    let survey = document::quarter_place();
+    let answer = assert_same(&survey, 0, [0, 0, 0], 256, "dry -1 at 0, wet 3 at 256");
+    assert_eq!(answer, [0, 1, 64f32.to_bits(), 0, 0]);
+    assert_eq!(assert_same(&survey, 3, [0, 0, 0], 256, "axis 3")[0], 11);
+}
+
+#[test]
+fn every_edge_and_many_that_no_cell_has() {
+    let mut met = [0usize; 3];
+    for seed in 0..30 {
+        let survey = generate::small_survey(seed, 6);
+        let what = format!("seed {seed}");
+        for place in places(&survey) {
+            for (axis, level) in (0..3).flat_map(|axis| (0..=10).map(move |level| (axis, level))) {
+                match assert_same(&survey, axis, place, 1 << level, &what) {
+                    [11, ..] => met[0] += 1,
+                    [0, 0, ..] => met[1] += 1,
+                    _ => met[2] += 1,
+                }
+            }
+        }
+    }
+    assert!(met.iter().all(|&count| count > 300), "no edge, even, crossing: {met:?}");
+}
+
+#[test]
+fn large_surveys() {
+    for seed in 0..60 {
+        let survey = generate::survey(seed);
+        let what = format!("seed {seed}");
+        for (n, place) in places(&survey).enumerate().step_by(7) {
+            assert_same(&survey, (n % 3) as u32, place, 1 << (n % 11), &what);
+        }
+    }
+}
+
+#[test]
+fn any_numbers_are_answered() {
+    let survey = generate::small_survey(1, 4);
+    let odd_numbers =
+        [0, 1, 3, 255, 512, 1_000, 1_023, 1_024, 1_025, 2_048, 65_535, 65_536, 65_537, 1 << 31, u32::MAX];
+    for a in odd_numbers {
+        for b in odd_numbers {
+            for axis in [0, 1, 2, 3, u32::MAX] {
+                assert_same(&survey, axis, [a, b, 0], 1_024, "extreme numbers");
+                assert_same(&survey, axis, [0, a, b], 512, "extreme numbers");
+                assert_same(&survey, axis, [b, 0, 0], a, "extreme numbers");
+            }
+        }
+    }
+}
+
+#[test]
+fn damaged_surveys_are_refused_alike() {
+    for seed in 0..5_000 {
+        let survey = damage::damaged(seed).survey;
+        assert_same(
+            &survey,
+            (seed % 4) as u32,
+            [0, 0, 0],
+            1 << (seed % 12),
+            &format!("damaged, seed {seed}"),
+        );
+        assert_same(&damage::corrupted(seed), 0, [0, 0, 0], 1_024, &format!("corrupted, seed {seed}"));
+    }
+}
+
+/// Places of random pairs of soundings, on one leaf: they agree, and lie on their edges. `CLEARANCE_PAIRS` sets how many.
+#[test]
+fn places_of_random_soundings() {
+    let pairs = std::env::var("CLEARANCE_PAIRS").map_or(100_000, |text| text.parse().expect("a number"));
+    for seed in 0..pairs {
+        let survey = generate::small_survey(seed, 0);
+        for axis in 0..3 {
+            let answer = assert_same(&survey, axis, [0, 0, 0], 1_024, &format!("pair, seed {seed}"));
+            if answer[1] != 0 {
+                let moving = f32::from_bits(answer[2 + axis as usize]);
+                assert!((0.0..=1024.0).contains(&moving), "seed {seed}: {moving}");
+            }
+        }
+    }
+}
