@@ -1,5 +1,6 @@
 // What is exported to C and Rust: the calls of document 01, thin over the proved ones. A slice passes as a pointer and a length.
-use rules::{Answer, Edge};
+use rules::Answer;
+use rules::Edge;
 ghost use mathlib.Core.Path.{_≡_};
 ghost use Rattle.rules.specs.Outputs.{surveyRefusal, enquiry};
 ghost use Rattle.clearance.specs.Reply.{replyOf, edgeReply};

@@ -1,0 +1,10 @@
+pub mod Table
+pub mod Rows
+pub mod Descent
+pub mod Faces
+pub mod Keys
+pub mod Looks
+pub mod Steps
+pub mod Across
+pub mod Own
+pub mod Leaves

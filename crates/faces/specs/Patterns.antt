@@ -1,0 +1,28 @@
+-- The sixteen wet patterns of a face, by number: bit i says that corner i is wet.
+use Prim.Native.Nat.{ℕ, _+_, _*_, _/_, _%_, _^_}
+use mathlib.Core.Bool.{Bool, true, cond}
+use mathlib.Core.List.{List, [], _∷_}
+use lib.Dec.{eqb, ltb}
+use Rattle.base.specs.Lists.{bit}
+use Rattle.rules.specs.Steps.{Step, stepIn}
+
+-- corner i, counted round the face, is wet
+abbrev pub wetBit : ℕ → ℕ → Bool
+wetBit pattern i = eqb (pattern / 2 ^ (i % 4) % 2) 1
+
+-- the edge by which a step leaves, or 4 where there is none
+abbrev pub exit : List Step → ℕ
+exit [] = 4
+exit (t ∷ ts) = t .1
+
+-- the edge to which the step that enters by edge i goes, by the rule for steps with wet corners cut off; 4 where none enters
+unfoldable pub stepFrom : ℕ → ℕ → ℕ
+stepFrom p i = exit (stepIn true i (wetBit p i) (wetBit p (i + 1)) (wetBit p (i + 2)) (wetBit p (i + 3)))
+
+-- the pattern of four wet marks
+abbrev pub patternOf : Bool → Bool → Bool → Bool → ℕ
+patternOf a b c d = bit a + 2 * bit b + 4 * bit c + 8 * bit d
+
+-- the step from edge i to edge j, if j is one
+abbrev pub stepTo : ℕ → ℕ → List Step
+stepTo i j = cond (ltb j 4) ((i, j) ∷ []) []
