@@ -1,3 +1,4 @@
+-- `edges::edge_record` meets its contract: the record at the place, and the levels there, say whether some cell has the edge.
 use Rattle.edges.proofs.Twins.{nowhere, at-place, sought-miss, sought-hit}
 use Rattle.edges.proofs.Readings.{corners}
 use Rattle.records.proofs.Keys.{Short}
@@ -11,11 +12,7 @@ use native.Mathlib.Omega.{arith}
 use borrow.Author.Needs.{needs}
 use Rattle.edges.proofs.edge_record.Statement.{statement}
 use Rattle.edges.proofs.edge_record.Tie as tie
-use Rattle.edges.proofs.edge_record.Reads as reads
-use Rattle.edges.proofs.edge_record.Lts as lts
-use Rattle.records.proofs.find.Reads as find-reads
 
--- src/lib.rt:322:9
 find-requires : tie.Need-find-requires
 find-requires c κs =
     let s = c .before .before .before .before in
@@ -24,7 +21,6 @@ find-requires c κs =
     let v = s .args .clearance in
     (refl, corners tc tk v (s .pre .0) .rises)
 
--- src/lib.rt:324:9
 returns : tie.Need-returns
 returns c =
     let s = c .before .before .before .before .before .before in
@@ -37,15 +33,12 @@ returns c =
           (s .args .key) (c .before .find .result) e (c .before .find .ensures) (c .if1 .taken);
     }
 
--- src/lib.rt:326:14
 mul-at : tie.Need-mul-at
 mul-at c = search needs
 
--- src/lib.rt:326:14
 add-at : tie.Need-add-at
 add-at c = search needs
 
--- src/lib.rt:327:16
 shared-slice-read-if2 : tie.Need-shared-slice-read-if2
 shared-slice-read-if2 c =
     let s = c .before .before .before .before .before .before .before in
@@ -54,7 +47,6 @@ shared-slice-read-if2 c =
     let v = s .args .clearance in
     omega (arith, s .pre .1 .0 .size, corners tc tk v (s .pre .0) .few)
 
--- src/lib.rt:328:9
 returns-2 : tie.Need-returns-2
 returns-2 c =
     let s = c .before .before .before .before .before .before .before .before in
@@ -68,7 +60,6 @@ returns-2 c =
     (at-place tc tk v (s .pre .0) d (axisOf (s .args .axis)) p (s .args .level) (s .args .key) (f .find .result) e (f .find .ensures) w (omega arith))
     (inl (c .if2 .taken))
 
--- src/lib.rt:330:8
 shared-slice-read-if3 : tie.Need-shared-slice-read-if3
 shared-slice-read-if3 c =
     let s = c .before .before .before .before .before .before .before .before .before in
@@ -77,7 +68,6 @@ shared-slice-read-if3 c =
     let v = s .args .clearance in
     omega (arith, s .pre .1 .1 .0 .size, corners tc tk v (s .pre .0) .few)
 
--- src/lib.rt:331:9
 returns-3 : tie.Need-returns-3
 returns-3 c =
     let s = c .before .before .before .before .before .before .before .before .before .before in
@@ -91,7 +81,6 @@ returns-3 c =
     (at-place tc tk v (s .pre .0) d (axisOf (s .args .axis)) p (s .args .level) (s .args .key) (f .find .result) e (f .find .ensures) w (omega arith))
     (inr (c .if3 .taken))
 
--- src/lib.rt:314:1
 returns-4 : tie.Need-returns-4
 returns-4 c =
     let s = c .before .before .before .before .before .before .before .before .before .before in

@@ -1,3 +1,4 @@
+-- `edges::enquire` meets its contract: the refusals in their order; no edge starts outside the box; then the answer from the tables.
 use Rattle.edges.proofs.Enquiring.{far-off, enquiry-refused, is-accepted, axis-refused, edge-refused, enquiry-answer}
 use Rattle.edges.specs.Enquiry.{edgeAnswer}
 use Rattle.rules.specs.Outputs.{levelOf}
@@ -7,17 +8,10 @@ use native.Mathlib.Omega.{arith}
 use borrow.Author.Needs.{needs}
 use Rattle.edges.proofs.enquire.Statement.{statement}
 use Rattle.edges.proofs.enquire.Tie as tie
-use Rattle.edges.proofs.enquire.Reads as reads
-use Rattle.edges.proofs.enquire.Lts as lts
-use Rattle.checks.proofs.refusal.Reads as refusal-reads
-use Rattle.edges.proofs.answers.enquire_accepted.Reads as enquire-accepted-reads
-use Rattle.edges.proofs.keys.level_of.Reads as level-of-reads
 
--- src/lib.rt:504:9
 refusal-requires : tie.Need-refusal-requires
 refusal-requires c κs = search needs
 
--- src/lib.rt:506:9
 returns : tie.Need-returns
 returns c =
     let s = c .before .before .before .before in
@@ -29,7 +23,6 @@ returns c =
     let f = c .before .refusal in
     enquiry-refused tc tk x n p (s .args .size) (f .result) (f .ensures) (c .if1 .taken)
 
--- src/lib.rt:509:9
 returns-2 : tie.Need-returns-2
 returns-2 c =
     let s = c .before .before .before .before .before in
@@ -42,7 +35,6 @@ returns-2 c =
     let z = c .before .if1 .left in
     axis-refused tc tk x n p (s .args .size) (f .result) (f .ensures) z (omega arith)
 
--- src/lib.rt:512:9
 returns-3 : tie.Need-returns-3
 returns-3 c =
     let s = c .before .before .before .before .before .before in
@@ -56,7 +48,6 @@ returns-3 c =
     edge-refused tc tk x n p (s .args .size) (f .result) (f .ensures) z (omega arith)
     (far-off tc tk x (is-accepted tc tk x n p (s .args .size) (f .result) (f .ensures) z) (axisOf n) X p (levelOf (s .args .size)) (c .if3 .taken))
 
--- src/lib.rt:515:9
 returns-4 : tie.Need-returns-4
 returns-4 c =
     let s = c .before .before .before .before .before .before .before in
@@ -70,7 +61,6 @@ returns-4 c =
     edge-refused tc tk x n p (s .args .size) (f .result) (f .ensures) z (omega arith)
     (far-off tc tk x (is-accepted tc tk x n p (s .args .size) (f .result) (f .ensures) z) (axisOf n) Y p (levelOf (s .args .size)) (c .if4 .taken))
 
--- src/lib.rt:518:9
 returns-5 : tie.Need-returns-5
 returns-5 c =
     let s = c .before .before .before .before .before .before .before .before in
@@ -84,23 +74,18 @@ returns-5 c =
     edge-refused tc tk x n p (s .args .size) (f .result) (f .ensures) z (omega arith)
     (far-off tc tk x (is-accepted tc tk x n p (s .args .size) (f .result) (f .ensures) z) (axisOf n) Z p (levelOf (s .args .size)) (c .if5 .taken))
 
--- src/lib.rt:520:55
 cast-enquire-accepted : tie.Need-cast-enquire-accepted
 cast-enquire-accepted c = search needs
 
--- src/lib.rt:520:65
 cast-enquire-accepted-2 : tie.Need-cast-enquire-accepted-2
 cast-enquire-accepted-2 c = search needs
 
--- src/lib.rt:520:75
 cast-enquire-accepted-3 : tie.Need-cast-enquire-accepted-3
 cast-enquire-accepted-3 c = search needs
 
--- src/lib.rt:520:85
 level-of-requires : tie.Need-level-of-requires
 level-of-requires c κs = search needs
 
--- src/lib.rt:520:5
 enquire-accepted-requires : tie.Need-enquire-accepted-requires
 enquire-accepted-requires c κs =
     let s = c .before .before .before .before .before .before .before .before .before in
@@ -113,7 +98,6 @@ enquire-accepted-requires c κs =
     let z = c .before .before .before .before .before .if1 .left in
     (is-accepted tc tk x n p (s .args .size) (f .result) (f .ensures) z, omega arith)
 
--- src/lib.rt:501:1
 returns-6 : tie.Need-returns-6
 returns-6 c =
     let s = c .before .before .before .before .before .before .before .before .before .before in

@@ -1,37 +1,29 @@
+-- `edges::enter` meets its contract: by cases on whether the slot is crossed.
 use mathlib.Core.Path.{refl}
 use native.Mathlib.Omega.{arith}
 use borrow.Author.Needs.{needs}
 use Rattle.edges.proofs.enter.Statement.{statement}
 use Rattle.edges.proofs.enter.Tie as tie
-use Rattle.edges.proofs.enter.Reads as reads
-use Rattle.edges.proofs.enter.Lts as lts
 
--- src/lib.rt:206:20
 cast-slots : tie.Need-cast-slots
 cast-slots c = search needs
 
--- src/lib.rt:206:9
 mul-slots : tie.Need-mul-slots
 mul-slots c = search needs
 
--- src/lib.rt:206:9
 slice-write-slots : tie.Need-slice-write-slots
 slice-write-slots c = search needs
 
--- src/lib.rt:207:16
 add-result : tie.Need-add-result
 add-result c = search needs
 
--- src/lib.rt:207:9
 same-length : tie.Need-same-length
 same-length c = search needs
 
--- src/lib.rt:207:9
 returns : tie.Need-returns
 returns c =
     rw (c .if1 .taken) (omega arith, refl)
 
--- src/lib.rt:201:1
 returns-2 : tie.Need-returns-2
 returns-2 c =
     rw (c .if1 .left) (omega arith, refl)

@@ -1,3 +1,4 @@
+-- `edges::fill_levels` meets its contract: before each turn the tables are of the edges of the cells from record i on.
 use Rattle.edges.proofs.Surveyed.{rises-true, corners-few, none-left, record-inside, cell-cornered, cell-level, cell-key}
 use Rattle.edges.proofs.Notes.{edges-from, levels-same}
 use Rattle.edges.specs.Noting.{Noting}
@@ -16,9 +17,6 @@ use native.Mathlib.Omega.{arith}
 use borrow.Author.Needs.{needs}
 use Rattle.edges.proofs.fill_levels.Statement.{statement}
 use Rattle.edges.proofs.fill_levels.Tie as tie
-use Rattle.edges.proofs.fill_levels.Reads as reads
-use Rattle.edges.proofs.fill_levels.Lts as lts
-use Rattle.edges.proofs.note_cell.Reads as note-cell-reads
 
 abbrev Inv-loop : tie.InvT-loop
 Inv-loop cells corners keys levels lowest₀ highest₀ i₀ lowest highest i =
@@ -27,7 +25,6 @@ Inv-loop cells corners keys levels lowest₀ highest₀ i₀ lowest highest i =
 abbrev μ-loop : tie.MeasureT-loop
 μ-loop cells corners keys levels lowest₀ highest₀ i₀ lowest highest i = i
 
--- src/lib.rt:142:5
 loop-holds : tie.Need-loop-holds Inv-loop μ-loop
 loop-holds c =
     let s = c .before .before .before .before .before .before in (
@@ -36,23 +33,18 @@ loop-holds c =
           (sym (none-left (s .args .cells .now) (s .args .corners .now) (s .pre .0))) (s .pre .1 .1 .1),
     )
 
--- src/lib.rt:143:9
 sub-i : tie.Need-sub-i Inv-loop μ-loop
 sub-i c = search needs
 
--- src/lib.rt:144:45
 mul-note-cell : tie.Need-mul-note-cell Inv-loop μ-loop
 mul-note-cell c = search needs
 
--- src/lib.rt:144:45
 shared-slice-read-note-cell : tie.Need-shared-slice-read-note-cell Inv-loop μ-loop
 shared-slice-read-note-cell c = search needs
 
--- src/lib.rt:144:54
 shared-slice-read-note-cell-2 : tie.Need-shared-slice-read-note-cell-2 Inv-loop μ-loop
 shared-slice-read-note-cell-2 c = search needs
 
--- src/lib.rt:144:9
 note-cell-requires : tie.Need-note-cell-requires Inv-loop μ-loop
 note-cell-requires c κs =
     let l = c .before .before .before .before .before in
@@ -69,11 +61,9 @@ note-cell-requires c κs =
       ),
     )
 
--- src/lib.rt:142:5
 loop-less : tie.Need-loop-less Inv-loop μ-loop
 loop-less c = search needs
 
--- src/lib.rt:142:5
 loop-again : tie.Need-loop-again Inv-loop μ-loop
 loop-again c =
     let l = c .before .before .before .before .before .before .before .before .before .before in
@@ -90,15 +80,12 @@ loop-again c =
     (record-inside tc tk (s .pre .0) i h)) in
     (omega arith, levels-same (placesOf tk) _ _ _ _ e (n .adds (edgesOf (drop (l .loop .i) (cellsOf tc))) (l .loop .inv .1)))
 
--- src/lib.rt:135:1
 same-length : tie.Need-same-length Inv-loop μ-loop
 same-length c = search needs
 
--- src/lib.rt:135:1
 same-length-2 : tie.Need-same-length-2 Inv-loop μ-loop
 same-length-2 c = search needs
 
--- src/lib.rt:135:1
 returns : tie.Need-returns Inv-loop μ-loop
 returns c =
     let l = c .before in

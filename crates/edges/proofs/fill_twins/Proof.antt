@@ -1,3 +1,4 @@
+-- `edges::fill_twins` meets its contract: the twins of the points passed are right.
 use Rattle.edges.proofs.TwinSlots.{points-few, points-slots}
 use Rattle.edges.proofs.Filled.{filled-more}
 use Rattle.rules.specs.Outputs.{surveyOf}
@@ -9,9 +10,6 @@ use native.Mathlib.Omega.{arith}
 use borrow.Author.Needs.{needs}
 use Rattle.edges.proofs.fill_twins.Statement.{statement}
 use Rattle.edges.proofs.fill_twins.Tie as tie
-use Rattle.edges.proofs.fill_twins.Reads as reads
-use Rattle.edges.proofs.fill_twins.Lts as lts
-use Rattle.edges.proofs.pairs.twin_of.Reads as twin-of-reads
 
 abbrev Inv-loop : tie.InvT-loop
 Inv-loop cells corners clearance wets lowest highest numbers slots n twins₀ v₀ twins v = (v ≤ n) × (n ≤ 14616) × (length twins ≡ 14616) ×
@@ -20,7 +18,6 @@ Inv-loop cells corners clearance wets lowest highest numbers slots n twins₀ v�
 abbrev μ-loop : tie.MeasureT-loop
 μ-loop cells corners clearance wets lowest highest numbers slots n twins₀ v₀ twins v = n - v
 
--- src/lib.rt:391:5
 loop-holds : tie.Need-loop-holds Inv-loop μ-loop
 loop-holds c =
     let s = c .before .before .before .before .before .before .before .before in
@@ -33,7 +30,6 @@ loop-holds c =
     let same = points-slots tc tk x (s .pre .0) (s .args .lowest .now) low in
     (omega arith, omega (arith, few, last .0), last .1, λ j h. absurd (omega arith))
 
--- src/lib.rt:392:20
 twin-of-requires : tie.Need-twin-of-requires Inv-loop μ-loop
 twin-of-requires c κs =
     let s = c .before .before .before .before .before .before .before .before .before .before in
@@ -47,23 +43,18 @@ twin-of-requires c κs =
     let l = c .before in
     (s .pre .0, (s .pre .1 .0, (low, (s .pre .1 .1 .1 .0, (s .pre .1 .1 .1 .1 .0, (s .pre .1 .1 .1 .1 .1 .0, (omega (arith, same, last .0), omega arith)))))))
 
--- src/lib.rt:392:9
 mul-twins : tie.Need-mul-twins Inv-loop μ-loop
 mul-twins c = search needs
 
--- src/lib.rt:392:9
 slice-write-twins : tie.Need-slice-write-twins Inv-loop μ-loop
 slice-write-twins c = search needs
 
--- src/lib.rt:393:9
 add-v : tie.Need-add-v Inv-loop μ-loop
 add-v c = search needs
 
--- src/lib.rt:391:5
 loop-less : tie.Need-loop-less Inv-loop μ-loop
 loop-less c = search needs
 
--- src/lib.rt:391:5
 loop-again : tie.Need-loop-again Inv-loop μ-loop
 loop-again c =
     let s = c .before .before .before .before .before .before .before .before .before .before .before in
@@ -81,11 +72,9 @@ loop-again c =
       filled-more (twinOf (surveyOf tc tk x)) (l .loop .twins) (l .loop .v) (c .twin-of .result) (omega arith) (l .loop .inv .3) (c .twin-of .ensures),
     )
 
--- src/lib.rt:380:1
 same-length : tie.Need-same-length Inv-loop μ-loop
 same-length c = search needs
 
--- src/lib.rt:380:1
 returns : tie.Need-returns Inv-loop μ-loop
 returns c =
     let s = c .before .before .before .before .before .before .before .before .before .before in

@@ -1,3 +1,4 @@
+-- `edges::fill_wets` meets its contract: the marks of the records passed are right.
 use Rattle.edges.proofs.Filled.{filled-more, wets-done}
 use Rattle.rules.specs.Survey.{cornerRecord, wet}
 use Rattle.base.specs.Lists.{bit}
@@ -8,11 +9,6 @@ use native.Mathlib.Omega.{arith}
 use borrow.Author.Needs.{needs}
 use Rattle.edges.proofs.fill_wets.Statement.{statement}
 use Rattle.edges.proofs.fill_wets.Tie as tie
-use Rattle.edges.proofs.fill_wets.Reads as reads
-use Rattle.edges.proofs.fill_wets.Lts as lts
-use Rattle.edges.proofs.keys.mark.Reads as mark-reads
-use Rattle.records.proofs.corner_at.Reads as corner-at-reads
-use Rattle.records.proofs.is_wet.Reads as is-wet-reads
 
 abbrev Inv-loop : tie.InvT-loop
 Inv-loop corners clearance wets₀ count k₀ wets k =
@@ -21,35 +17,27 @@ Inv-loop corners clearance wets₀ count k₀ wets k =
 abbrev μ-loop : tie.MeasureT-loop
 μ-loop corners clearance wets₀ count k₀ wets k = count - k
 
--- src/lib.rt:156:5
 loop-holds : tie.Need-loop-holds Inv-loop μ-loop
 loop-holds c = (search needs, search needs, λ j h. absurd (omega arith))
 
--- src/lib.rt:157:40
 corner-at-requires : tie.Need-corner-at-requires Inv-loop μ-loop
 corner-at-requires c κs = search needs
 
--- src/lib.rt:157:24
 is-wet-requires : tie.Need-is-wet-requires Inv-loop μ-loop
 is-wet-requires c κs = search needs
 
--- src/lib.rt:157:19
 mark-requires : tie.Need-mark-requires Inv-loop μ-loop
 mark-requires c κs = search needs
 
--- src/lib.rt:157:9
 slice-write-wets : tie.Need-slice-write-wets Inv-loop μ-loop
 slice-write-wets c = search needs
 
--- src/lib.rt:158:9
 add-k : tie.Need-add-k Inv-loop μ-loop
 add-k c = search needs
 
--- src/lib.rt:156:5
 loop-less : tie.Need-loop-less Inv-loop μ-loop
 loop-less c = search needs
 
--- src/lib.rt:156:5
 loop-again : tie.Need-loop-again Inv-loop μ-loop
 loop-again c =
     let l = c .before .before .before .before in
@@ -61,11 +49,9 @@ loop-again c =
           (c .mark .ensures ∙ ap bit (c .before .is-wet .ensures ∙ ap (wet (s .args .clearance)) (c .before .before .corner-at .ensures))),
     )
 
--- src/lib.rt:149:1
 same-length : tie.Need-same-length Inv-loop μ-loop
 same-length c = search needs
 
--- src/lib.rt:149:1
 returns : tie.Need-returns Inv-loop μ-loop
 returns c =
     let l = c .before in

@@ -1,36 +1,29 @@
+-- `edges::is_crossed` meets its contract: no record, no edge, or an edge whose parity decides.
 use Rattle.edges.proofs.Readings.{corners, outside, empty, upper-known, crossed-odd}
 use mathlib.Core.Path.{_≡_, sym, ap, _∙_}
 use native.Mathlib.Omega.{arith}
 use borrow.Author.Needs.{needs}
 use Rattle.edges.proofs.is_crossed.Statement.{statement}
 use Rattle.edges.proofs.is_crossed.Tie as tie
-use Rattle.edges.proofs.is_crossed.Reads as reads
-use Rattle.edges.proofs.is_crossed.Lts as lts
-use Rattle.edges.proofs.ends.is_odd.Reads as is-odd-reads
 
--- src/lib.rt:191:9
 returns : tie.Need-returns
 returns c =
     let s = c .before .before .before .before .before in
     sym (outside (s .args .cells .now) (s .args .corners .now) (s .args .clearance) (s .pre .0) (s .args .lowest .now) (s .pre .1 .1 .0) (s .args .slot)
     (s .pre .1 .1 .1) (c .if1 .taken))
 
--- src/lib.rt:193:17
 shared-slice-read-level : tie.Need-shared-slice-read-level
 shared-slice-read-level c = search needs
 
--- src/lib.rt:195:9
 returns-2 : tie.Need-returns-2
 returns-2 c =
     let s = c .before .before .before .before .before .before .before in
     sym (empty (s .args .cells .now) (s .args .corners .now) (s .args .clearance) (s .pre .0) (s .args .lowest .now) (s .pre .1 .1 .0) (s .args .slot)
     (s .pre .1 .1 .1) (omega arith) (c .if2 .taken))
 
--- src/lib.rt:197:38
 cast-is-odd : tie.Need-cast-is-odd
 cast-is-odd c = search needs
 
--- src/lib.rt:197:5
 is-odd-requires : tie.Need-is-odd-requires
 is-odd-requires c κs =
     let s = c .before .before .before .before .before .before .before in
@@ -48,7 +41,6 @@ is-odd-requires c κs =
       ),
     )
 
--- src/lib.rt:182:1
 returns-3 : tie.Need-returns-3
 returns-3 c =
     let s = c .before .before .before .before .before .before .before .before in

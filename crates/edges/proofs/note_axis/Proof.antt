@@ -1,3 +1,4 @@
+-- `edges::note_axis` meets its contract: the four lower ends are corners of the cell, and each is noted.
 use Rattle.records.specs.Keys.{keyOf, placesOf}
 use Rattle.rules.specs.Survey.{size}
 use Rattle.base.specs.Grid.{axisOf, next, move}
@@ -8,63 +9,46 @@ use native.Mathlib.Omega.{arith}
 use borrow.Author.Needs.{needs}
 use Rattle.edges.proofs.note_axis.Statement.{statement}
 use Rattle.edges.proofs.note_axis.Tie as tie
-use Rattle.edges.proofs.note_axis.Reads as reads
-use Rattle.edges.proofs.note_axis.Lts as lts
-use Rattle.edges.proofs.keys.after.Reads as after-reads
-use Rattle.edges.proofs.note_edge.Reads as note-edge-reads
-use Rattle.edges.proofs.keys.step.Reads as step-reads
 
--- src/lib.rt:100:9
 after-requires : tie.Need-after-requires
 after-requires c κs = search needs
 
--- src/lib.rt:101:9
 step-requires : tie.Need-step-requires
 step-requires c κs = search needs
 
--- src/lib.rt:102:24
 after-requires-2 : tie.Need-after-requires-2
 after-requires-2 c κs = search needs
 
--- src/lib.rt:102:9
 step-requires-2 : tie.Need-step-requires-2
 step-requires-2 c κs = search needs
 
--- src/lib.rt:103:9
 step-requires-3 : tie.Need-step-requires-3
 step-requires-3 c κs = search needs
 
--- src/lib.rt:104:5
 note-edge-requires : tie.Need-note-edge-requires
 note-edge-requires c κs = search needs
 
--- src/lib.rt:105:5
 note-edge-requires-2 : tie.Need-note-edge-requires-2
 note-edge-requires-2 c κs = search needs
 
--- src/lib.rt:106:5
 note-edge-requires-3 : tie.Need-note-edge-requires-3
 note-edge-requires-3 c κs = (
   c .before .before .before .before .before .before .note-edge2 .ensures .0,
   c .before .before .before .before .before .before .before .before .before .before .before .before .before .before .before .before .before .before .before .before .before .before .before .before .pre .1 .0,
 )
 
--- src/lib.rt:107:5
 note-edge-requires-4 : tie.Need-note-edge-requires-4
 note-edge-requires-4 c κs = (
   c .before .before .before .before .before .before .note-edge3 .ensures .0,
   c .before .before .before .before .before .before .before .before .before .before .before .before .before .before .before .before .before .before .before .before .before .before .before .before .before .before .before .before .before .before .before .pre .1 .0,
 )
 
--- src/lib.rt:93:1
 same-length : tie.Need-same-length
 same-length c = search needs
 
--- src/lib.rt:93:1
 same-length-2 : tie.Need-same-length-2
 same-length-2 c = search needs
 
--- src/lib.rt:93:1
 returns : tie.Need-returns
 returns c =
     let e4 = c .before .before .before .before in

@@ -1,32 +1,24 @@
+-- `edges::note_cell` meets its contract: the three axes, from the last to the first.
 use Rattle.edges.proofs.Notes.{cell-noted}
 use borrow.Author.Needs.{needs}
 use Rattle.edges.proofs.note_cell.Statement.{statement}
 use Rattle.edges.proofs.note_cell.Tie as tie
-use Rattle.edges.proofs.note_cell.Reads as reads
-use Rattle.edges.proofs.note_cell.Lts as lts
-use Rattle.edges.proofs.note_axis.Reads as note-axis-reads
 
--- src/lib.rt:109:5
 note-axis-requires : tie.Need-note-axis-requires
 note-axis-requires c κs = search needs
 
--- src/lib.rt:110:5
 note-axis-requires-2 : tie.Need-note-axis-requires-2
 note-axis-requires-2 c κs = search needs
 
--- src/lib.rt:111:5
 note-axis-requires-3 : tie.Need-note-axis-requires-3
 note-axis-requires-3 c κs = search needs
 
--- src/lib.rt:102:1
 same-length : tie.Need-same-length
 same-length c = search needs
 
--- src/lib.rt:102:1
 same-length-2 : tie.Need-same-length-2
 same-length-2 c = search needs
 
--- src/lib.rt:102:1
 returns : tie.Need-returns
 returns c =
     let x = c .before .before .before .before in

@@ -1,3 +1,4 @@
+-- `edges::note_edge` meets its contract: the record found is that of the place, and one more edge is noted at its slot; a key that no record has is no listed place.
 use Rattle.edges.proofs.Notes.{note-found}
 use Rattle.edges.proofs.Find.{found}
 use Rattle.records.specs.Keys.{recordAt}
@@ -7,17 +8,10 @@ use native.Mathlib.Omega.{arith}
 use borrow.Author.Needs.{needs}
 use Rattle.edges.proofs.note_edge.Statement.{statement}
 use Rattle.edges.proofs.note_edge.Tie as tie
-use Rattle.edges.proofs.note_edge.Reads as reads
-use Rattle.edges.proofs.note_edge.Lts as lts
-use Rattle.edges.proofs.keys.higher.Reads as higher-reads
-use Rattle.edges.proofs.keys.lower.Reads as lower-reads
-use Rattle.records.proofs.find.Reads as find-reads
 
--- src/lib.rt:73:9
 find-requires : tie.Need-find-requires
 find-requires c κs = search needs
 
--- src/lib.rt:75:9
 returns : tie.Need-returns
 returns c =
     let s = c .before .before .before .before .before in
@@ -30,47 +24,36 @@ returns c =
       )),
     )
 
--- src/lib.rt:77:14
 mul-at : tie.Need-mul-at
 mul-at c = search needs
 
--- src/lib.rt:77:14
 add-at : tie.Need-add-at
 add-at c = search needs
 
--- src/lib.rt:78:28
 slice-read-lower : tie.Need-slice-read-lower
 slice-read-lower c = search needs
 
--- src/lib.rt:78:9
 lower-requires : tie.Need-lower-requires
 lower-requires c κs = search needs
 
--- src/lib.rt:79:30
 slice-read-higher : tie.Need-slice-read-higher
 slice-read-higher c = search needs
 
--- src/lib.rt:79:9
 higher-requires : tie.Need-higher-requires
 higher-requires c κs = search needs
 
--- src/lib.rt:80:5
 slice-write-lowest : tie.Need-slice-write-lowest
 slice-write-lowest c = search needs
 
--- src/lib.rt:81:5
 slice-write-highest : tie.Need-slice-write-highest
 slice-write-highest c = search needs
 
--- src/lib.rt:65:1
 same-length : tie.Need-same-length
 same-length c = search needs
 
--- src/lib.rt:65:1
 same-length-2 : tie.Need-same-length-2
 same-length-2 c = search needs
 
--- src/lib.rt:65:1
 returns-2 : tie.Need-returns-2
 returns-2 c =
     let f = c .before .before .before .before .before in

@@ -1,3 +1,4 @@
+-- `edges::number_slots` meets its contract: before each turn the slots passed are numbered and the points found are entered.
 use Rattle.edges.proofs.Numbering.{Numbered, number-none, number-next, numbers-done, slots-done, count-done}
 use Rattle.edges.proofs.Readings.{edges-law, few-places}
 use Rattle.rules.specs.Outputs.{surveyOf}
@@ -7,10 +8,6 @@ use native.Mathlib.Omega.{arith}
 use borrow.Author.Needs.{needs}
 use Rattle.edges.proofs.number_slots.Statement.{statement}
 use Rattle.edges.proofs.number_slots.Tie as tie
-use Rattle.edges.proofs.number_slots.Reads as reads
-use Rattle.edges.proofs.number_slots.Lts as lts
-use Rattle.edges.proofs.enter.Reads as enter-reads
-use Rattle.edges.proofs.is_crossed.Reads as is-crossed-reads
 
 abbrev Inv-loop : tie.InvT-loop
 Inv-loop cells corners clearance wets lowest numbers₀ slots₀ n₀ slot₀ numbers slots n slot = Numbered (surveyOf cells corners clearance) numbers slots n slot
@@ -18,41 +15,32 @@ Inv-loop cells corners clearance wets lowest numbers₀ slots₀ n₀ slot₀ nu
 abbrev μ-loop : tie.MeasureT-loop
 μ-loop cells corners clearance wets lowest numbers₀ slots₀ n₀ slot₀ numbers slots n slot = 14616 - slot
 
--- src/lib.rt:224:5
 loop-holds : tie.Need-loop-holds Inv-loop μ-loop
 loop-holds c =
     let s = c .before .before .before .before .before .before in
     number-none _ _ _ (s .pre .1 .1 .1 .0) (s .pre .1 .1 .1 .1)
 
--- src/lib.rt:225:25
 cast-numbers : tie.Need-cast-numbers Inv-loop μ-loop
 cast-numbers c = search needs
 
--- src/lib.rt:225:9
 mul-numbers : tie.Need-mul-numbers Inv-loop μ-loop
 mul-numbers c = search needs
 
--- src/lib.rt:225:9
 slice-write-numbers : tie.Need-slice-write-numbers Inv-loop μ-loop
 slice-write-numbers c = search needs
 
--- src/lib.rt:226:35
 is-crossed-requires : tie.Need-is-crossed-requires Inv-loop μ-loop
 is-crossed-requires c κs = search needs
 
--- src/lib.rt:226:9
 enter-requires : tie.Need-enter-requires Inv-loop μ-loop
 enter-requires c κs = search needs
 
--- src/lib.rt:227:9
 add-slot : tie.Need-add-slot Inv-loop μ-loop
 add-slot c = search needs
 
--- src/lib.rt:224:5
 loop-less : tie.Need-loop-less Inv-loop μ-loop
 loop-less c = search needs
 
--- src/lib.rt:224:5
 loop-again : tie.Need-loop-again Inv-loop μ-loop
 loop-again c =
     let l = c .before .before .before .before .before .before in
@@ -61,15 +49,12 @@ loop-again c =
     (c .before .before .before .is-crossed .result) (c .before .before .before .is-crossed .ensures) _ (c .before .before .enter .ensures .0) _
     (c .before .before .enter .ensures .1)
 
--- src/lib.rt:213:1
 same-length : tie.Need-same-length Inv-loop μ-loop
 same-length c = search needs
 
--- src/lib.rt:213:1
 same-length-2 : tie.Need-same-length-2 Inv-loop μ-loop
 same-length-2 c = search needs
 
--- src/lib.rt:213:1
 returns : tie.Need-returns Inv-loop μ-loop
 returns c =
     let l = c .before in

@@ -1,3 +1,4 @@
+-- `edges::point_of` meets its contract: before each turn the edge at hand is odd and has the same carrier as the first; at the lowest level the slot has its number.
 use Rattle.edges.proofs.Descent.{odd-level, middle-listed, down, point-found}
 use Rattle.edges.proofs.Readings.{corners, few-places}
 use Rattle.edges.specs.Tables.{placeAt, OddEdge}
@@ -12,9 +13,6 @@ use native.Mathlib.Omega.{arith}
 use borrow.Author.Needs.{needs}
 use Rattle.edges.proofs.point_of.Statement.{statement}
 use Rattle.edges.proofs.point_of.Tie as tie
-use Rattle.edges.proofs.point_of.Reads as reads
-use Rattle.edges.proofs.point_of.Lts as lts
-use Rattle.edges.proofs.ends.odd_half.Reads as odd-half-reads
 
 abbrev Inv-loop : tie.InvT-loop
 Inv-loop cells corners clearance wets lowest numbers axis start top k₀ level₀ k level =
@@ -25,7 +23,6 @@ Inv-loop cells corners clearance wets lowest numbers axis start top k₀ level�
 abbrev μ-loop : tie.MeasureT-loop
 μ-loop cells corners clearance wets lowest numbers axis start top k₀ level₀ k level = level
 
--- src/lib.rt:259:5
 loop-holds : tie.Need-loop-holds Inv-loop μ-loop
 loop-holds c =
     let s = c .before .before .before .before .before in
@@ -34,23 +31,18 @@ loop-holds c =
     let o = s .pre .1 .1 .1 .1 .1 in
     (omega (arith, o .inside, corners tc tk (s .args .clearance) (s .pre .0) .few), o, refl)
 
--- src/lib.rt:259:18
 mul-if1 : tie.Need-mul-if1 Inv-loop μ-loop
 mul-if1 c = search needs
 
--- src/lib.rt:259:18
 add-if1 : tie.Need-add-if1 Inv-loop μ-loop
 add-if1 c = search needs
 
--- src/lib.rt:259:11
 shared-slice-read-if1 : tie.Need-shared-slice-read-if1 Inv-loop μ-loop
 shared-slice-read-if1 c = search needs
 
--- src/lib.rt:260:9
 sub-level : tie.Need-sub-level Inv-loop μ-loop
 sub-level c = search needs
 
--- src/lib.rt:261:9
 odd-half-requires : tie.Need-odd-half-requires Inv-loop μ-loop
 odd-half-requires c κs =
     let l = c .before .before in
@@ -73,11 +65,9 @@ odd-half-requires c κs =
       ),
     )
 
--- src/lib.rt:259:5
 loop-less : tie.Need-loop-less Inv-loop μ-loop
 loop-less c = search needs
 
--- src/lib.rt:259:5
 loop-again : tie.Need-loop-again Inv-loop μ-loop
 loop-again c =
     let l = c .before .before .before in
@@ -91,23 +81,18 @@ loop-again c =
     (c .before .if1 .taken) (l .before .before .before .before .shared-slice-known2 .given) (c .odd-half .result) (c .odd-half .ensures) in
     (omega (arith, d .0 .inside, corners tc tk (s .args .clearance) (s .pre .0) .few), d .0, d .1 ∙ l .loop .inv .2)
 
--- src/lib.rt:263:13
 mul-result : tie.Need-mul-result Inv-loop μ-loop
 mul-result c = search needs
 
--- src/lib.rt:263:13
 add-result : tie.Need-add-result Inv-loop μ-loop
 add-result c = search needs
 
--- src/lib.rt:263:5
 mul-result-2 : tie.Need-mul-result-2 Inv-loop μ-loop
 mul-result-2 c = search needs
 
--- src/lib.rt:263:5
 shared-slice-read-result : tie.Need-shared-slice-read-result Inv-loop μ-loop
 shared-slice-read-result c = search needs
 
--- src/lib.rt:247:1
 returns : tie.Need-returns Inv-loop μ-loop
 returns c =
     let l = c .before .before .before in

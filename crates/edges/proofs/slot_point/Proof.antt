@@ -1,3 +1,4 @@
+-- `edges::slot_point` meets its contract: the edge of a crossed slot, as the tables have it.
 use Rattle.edges.proofs.Places.{slot-edge-read}
 use Rattle.edges.proofs.TwinSlots.{slot-odd-edge}
 use Rattle.edges.proofs.Descent.{odd-level}
@@ -11,19 +12,13 @@ use native.Mathlib.Omega.{arith}
 use borrow.Author.Needs.{needs}
 use Rattle.edges.proofs.slot_point.Statement.{statement}
 use Rattle.edges.proofs.slot_point.Tie as tie
-use Rattle.edges.proofs.slot_point.Reads as reads
-use Rattle.edges.proofs.slot_point.Lts as lts
-use Rattle.edges.proofs.ends.edge_point.Reads as edge-point-reads
 
--- src/lib.rt:418:36
 cast-edge-point : tie.Need-cast-edge-point
 cast-edge-point c = search needs
 
--- src/lib.rt:418:71
 shared-slice-read-edge-point : tie.Need-shared-slice-read-edge-point
 shared-slice-read-edge-point c = search needs
 
--- src/lib.rt:418:5
 edge-point-requires : tie.Need-edge-point-requires
 edge-point-requires c κs =
     let s = c .before .before .before .before in
@@ -40,7 +35,6 @@ edge-point-requires c κs =
     let l = odd-level tc tk x (s .pre .0) w low (i / 4872) g (i % 4872) (getD w i 0) o in
     (corners tc tk x (s .pre .0), (o .inside, l, upper-known tc tk x (s .pre .0) w low i h (o .inside) l))
 
--- src/lib.rt:412:1
 returns : tie.Need-returns
 returns c =
     let s = c .before .before .before .before .before in

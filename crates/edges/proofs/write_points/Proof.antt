@@ -1,3 +1,4 @@
+-- `edges::write_points` meets its contract: before each turn the places of the points passed are written, and nothing behind them is touched.
 use Rattle.edges.proofs.TwinSlots.{slot-inside, slot-crossed, point-edge-is, points-few, points-slots}
 use Rattle.edges.specs.Tables.{slotsBelow}
 use Rattle.places.proofs.Stored.{floats, stored-length, written-turn, written-points}
@@ -15,10 +16,6 @@ use native.Mathlib.Omega.{arith}
 use borrow.Author.Needs.{needs}
 use Rattle.edges.proofs.write_points.Statement.{statement}
 use Rattle.edges.proofs.write_points.Tie as tie
-use Rattle.edges.proofs.write_points.Reads as reads
-use Rattle.edges.proofs.write_points.Lts as lts
-use Rattle.edges.proofs.slot_point.Reads as slot-point-reads
-use Rattle.places.proofs.put_point.Reads as put-point-reads
 
 abbrev Inv-loop : tie.InvT-loop
 Inv-loop cells corners clearance lowest slots n points₀ v₀ points v =
@@ -28,7 +25,6 @@ Inv-loop cells corners clearance lowest slots n points₀ v₀ points v =
 abbrev μ-loop : tie.MeasureT-loop
 μ-loop cells corners clearance lowest slots n points₀ v₀ points v = n - v
 
--- src/lib.rt:430:5
 loop-holds : tie.Need-loop-holds Inv-loop μ-loop
 loop-holds c =
     let s = c .before .before .before .before .before in
@@ -42,11 +38,9 @@ loop-holds c =
     let same = points-slots tc tk x (s .pre .0) (s .args .lowest .now) low in
     (omega arith, omega (arith, few, last .0), refl, refl)
 
--- src/lib.rt:431:84
 mul-slot-point : tie.Need-mul-slot-point Inv-loop μ-loop
 mul-slot-point c = search needs
 
--- src/lib.rt:431:84
 shared-slice-read-slot-point : tie.Need-shared-slice-read-slot-point Inv-loop μ-loop
 shared-slice-read-slot-point c =
     let s = c .before .before .before .before .before .before .before .before .before in
@@ -60,7 +54,6 @@ shared-slice-read-slot-point c =
     let same = points-slots tc tk x (s .pre .0) (s .args .lowest .now) low in
     omega (arith, at .size)
 
--- src/lib.rt:431:84
 cast-slot-point : tie.Need-cast-slot-point Inv-loop μ-loop
 cast-slot-point c =
     let s = c .before .before .before .before .before .before .before .before .before in
@@ -76,7 +69,6 @@ cast-slot-point c =
     let h : l .loop .v < length (slotsBelow (surveyOf tc tk x) 14616) = omega (arith, same, last .0) in
     omega (arith, slot-inside tc tk x (s .pre .0) (s .args .lowest .now) low (s .args .slots .now) at (l .loop .v) h)
 
--- src/lib.rt:431:38
 slot-point-requires : tie.Need-slot-point-requires Inv-loop μ-loop
 slot-point-requires c κs =
     let s = c .before .before .before .before .before .before .before .before .before in
@@ -101,7 +93,6 @@ slot-point-requires c κs =
       ),
     )
 
--- src/lib.rt:431:9
 put-point-requires : tie.Need-put-point-requires Inv-loop μ-loop
 put-point-requires c κs =
     let s = c .before .before .before .before .before .before .before .before .before .before in
@@ -115,15 +106,12 @@ put-point-requires c κs =
     let same = points-slots tc tk x (s .pre .0) (s .args .lowest .now) low in
     omega (arith, last .1)
 
--- src/lib.rt:432:9
 add-v : tie.Need-add-v Inv-loop μ-loop
 add-v c = search needs
 
--- src/lib.rt:430:5
 loop-less : tie.Need-loop-less Inv-loop μ-loop
 loop-less c = search needs
 
--- src/lib.rt:430:5
 loop-again : tie.Need-loop-again Inv-loop μ-loop
 loop-again c =
     let s = c .before .before .before .before .before .before .before .before .before .before .before .before .before in
@@ -151,11 +139,9 @@ loop-again c =
           (l .loop .inv .3),
     )
 
--- src/lib.rt:422:1
 same-length : tie.Need-same-length Inv-loop μ-loop
 same-length c = search needs
 
--- src/lib.rt:422:1
 returns : tie.Need-returns Inv-loop μ-loop
 returns c =
     let s = c .before .before .before .before .before .before .before in

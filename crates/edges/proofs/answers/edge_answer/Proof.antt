@@ -1,3 +1,4 @@
+-- `edges::answers::edge_answer` meets its contract: by cases: no cell has the edge, it is odd, it is even.
 use Rattle.edges.proofs.Enquiring.{key-is, answer-none, answer-even, answer-crossing, number-is, number-inside, slot-carries, edge-shallow, upper-listed}
 use Rattle.edges.proofs.TwinSlots.{slot-inside, slot-crossed, points-few, points-slots}
 use Rattle.edges.proofs.Descent.{odd-level}
@@ -18,34 +19,22 @@ use native.Mathlib.Omega.{arith}
 use borrow.Author.Needs.{needs}
 use Rattle.edges.proofs.answers.edge_answer.Statement.{statement}
 use Rattle.edges.proofs.answers.edge_answer.Tie as tie
-use Rattle.edges.proofs.answers.edge_answer.Reads as reads
-use Rattle.edges.proofs.answers.edge_answer.Lts as lts
-use Rattle.edges.proofs.edge_record.Reads as edge-record-reads
-use Rattle.edges.proofs.ends.is_odd.Reads as is-odd-reads
-use Rattle.edges.proofs.point_of.Reads as point-of-reads
-use Rattle.edges.proofs.slot_point.Reads as slot-point-reads
 
--- src/lib.rt:467:28
 mul-key : tie.Need-mul-key
 mul-key c = search needs
 
--- src/lib.rt:467:15
 add-key : tie.Need-add-key
 add-key c = search needs
 
--- src/lib.rt:467:49
 mul-key-2 : tie.Need-mul-key-2
 mul-key-2 c = search needs
 
--- src/lib.rt:467:15
 add-key-2 : tie.Need-add-key-2
 add-key-2 c = search needs
 
--- src/lib.rt:468:9
 edge-record-requires : tie.Need-edge-record-requires
 edge-record-requires c κs = search needs
 
--- src/lib.rt:470:9
 returns : tie.Need-returns
 returns c =
     let f = c .before in
@@ -61,7 +50,6 @@ returns c =
     let g = f .edge-record .ensures p (record { x-fits = omega arith; y-fits = omega arith }) (key-is (s .args .x) (s .args .y) (s .args .z)) in
     answer-none tc tk x a p l (g .none (omega arith))
 
--- src/lib.rt:472:8
 is-odd-requires : tie.Need-is-odd-requires
 is-odd-requires c κs =
     let f = c .before in
@@ -80,7 +68,6 @@ is-odd-requires c κs =
     let t = subst (λ q. T (isEdge (cellsOf tc) a q l)) (sym (e .1)) (e .0) in
     (corners tc tk x (s .pre .0), (s .pre .1 .0, (h, edge-shallow tc tk x (s .pre .0) a _ l t, upper-listed tc tk x (s .pre .0) a _ l t)))
 
--- src/lib.rt:473:13
 point-of-requires : tie.Need-point-of-requires
 point-of-requires c κs =
     let f = c .before .before .before in
@@ -101,15 +88,12 @@ point-of-requires c κs =
     let o : OddEdge tc tk x a k l = record { inside = h; is-edge = t; is-odd = →true u } in
     (s .pre .0, (s .pre .1 .0, (low, (s .pre .1 .1 .1 .1 .0, (s .pre .1 .1 .1 .1 .1 .1, o)))))
 
--- src/lib.rt:474:69
 cast-slot-point : tie.Need-cast-slot-point
 cast-slot-point c = search needs
 
--- src/lib.rt:474:63
 mul-slot-point : tie.Need-mul-slot-point
 mul-slot-point c = search needs
 
--- src/lib.rt:474:63
 shared-slice-read-slot-point : tie.Need-shared-slice-read-slot-point
 shared-slice-read-slot-point c =
     let f = c .before .before .before .before .before in
@@ -133,7 +117,6 @@ shared-slice-read-slot-point c =
     let v = number-inside tc tk x (s .pre .0) (s .args .lowest .now) low a k l o n (c .before .point-of .ensures) in
     omega (arith, points-few tc tk x (s .pre .0) (s .args .lowest .now) low, points-slots tc tk x (s .pre .0) (s .args .lowest .now) low, at .size)
 
--- src/lib.rt:474:63
 cast-slot-point-2 : tie.Need-cast-slot-point-2
 cast-slot-point-2 c =
     let f = c .before .before .before .before .before in
@@ -157,7 +140,6 @@ cast-slot-point-2 c =
     let v = number-inside tc tk x (s .pre .0) (s .args .lowest .now) low a k l o n (c .before .point-of .ensures) in
     omega (arith, slot-inside tc tk x (s .pre .0) (s .args .lowest .now) low (s .args .slots .now) at n v)
 
--- src/lib.rt:474:13
 slot-point-requires : tie.Need-slot-point-requires
 slot-point-requires c κs =
     let f = c .before .before .before .before .before in
@@ -190,11 +172,9 @@ slot-point-requires c κs =
       ),
     )
 
--- src/lib.rt:475:45
 cast-t33 : tie.Need-cast-t33
 cast-t33 c = search needs
 
--- src/lib.rt:475:9
 returns-2 : tie.Need-returns-2
 returns-2 c =
     let f = c .before .before .before .before .before .before in
@@ -223,7 +203,6 @@ returns-2 c =
     (λ q. numberOf (surveyOf tc tk x) (carrier (surveyOf tc tk x) a q l)) (e .1)) (asSpot (c .slot-point .result))
     (w ∙ ap (λ q. spotOn (cornersOf tk) x (carrier (surveyOf tc tk x) a q l)) (e .1))
 
--- src/lib.rt:457:1
 returns-3 : tie.Need-returns-3
 returns-3 c =
     let f = c .before .before .before in

@@ -1,3 +1,4 @@
+-- `edges::answers::enquire_accepted` meets its contract: each table is filled as the next step asks.
 use Rattle.edges.proofs.Enquiring.{no-refusal, entries-good, none-deep}
 use Rattle.records.specs.Keys.{placesOf}
 use Rattle.records.proofs.Keys.{length-places}
@@ -11,23 +12,13 @@ use native.Mathlib.Omega.{arith}
 use borrow.Author.Needs.{needs}
 use Rattle.edges.proofs.answers.enquire_accepted.Statement.{statement}
 use Rattle.edges.proofs.answers.enquire_accepted.Tie as tie
-use Rattle.edges.proofs.answers.enquire_accepted.Reads as reads
-use Rattle.edges.proofs.answers.enquire_accepted.Lts as lts
-use Rattle.cells.proofs.lay_out.Reads as lay-out-reads
-use Rattle.edges.proofs.answers.edge_answer.Reads as edge-answer-reads
-use Rattle.edges.proofs.fill_levels.Reads as fill-levels-reads
-use Rattle.edges.proofs.fill_wets.Reads as fill-wets-reads
-use Rattle.edges.proofs.number_slots.Reads as number-slots-reads
 
--- src/lib.rt:493:55
 slice-aggregate-lay-out : tie.Need-slice-aggregate-lay-out
 slice-aggregate-lay-out c = search needs
 
--- src/lib.rt:493:66
 slice-aggregate-lay-out-2 : tie.Need-slice-aggregate-lay-out-2
 slice-aggregate-lay-out-2 c = search needs
 
--- src/lib.rt:493:9
 lay-out-requires : tie.Need-lay-out-requires
 lay-out-requires c κs =
     let s = c .before .before .before .before in
@@ -37,23 +28,18 @@ lay-out-requires c κs =
     let f = cells-few tc tk (no-refusal tc tk x (s .pre .0)) in
     (refl, (entries-good tc tk x (s .pre .0), (omega arith, omega arith)))
 
--- src/lib.rt:494:33
 slice-aggregate-fill-levels : tie.Need-slice-aggregate-fill-levels
 slice-aggregate-fill-levels c = search needs
 
--- src/lib.rt:494:40
 slice-aggregate-fill-levels-2 : tie.Need-slice-aggregate-fill-levels-2
 slice-aggregate-fill-levels-2 c = search needs
 
--- src/lib.rt:494:49
 slice-aggregate-fill-levels-3 : tie.Need-slice-aggregate-fill-levels-3
 slice-aggregate-fill-levels-3 c = search needs
 
--- src/lib.rt:494:62
 slice-aggregate-fill-levels-4 : tie.Need-slice-aggregate-fill-levels-4
 slice-aggregate-fill-levels-4 c = search needs
 
--- src/lib.rt:494:5
 fill-levels-requires : tie.Need-fill-levels-requires
 fill-levels-requires c κs =
     let s = c .before .before .before .before .before .before .before .before .before .before .before in
@@ -73,11 +59,9 @@ fill-levels-requires c κs =
       ),
     )
 
--- src/lib.rt:495:35
 slice-aggregate-fill-wets : tie.Need-slice-aggregate-fill-wets
 slice-aggregate-fill-wets c = search needs
 
--- src/lib.rt:495:5
 fill-wets-requires : tie.Need-fill-wets-requires
 fill-wets-requires c κs =
     let s = c .before .before .before .before .before .before .before .before .before .before .before .before .before .before .before in
@@ -86,23 +70,18 @@ fill-wets-requires c κs =
     let x = s .args .clearance in
     (corners tc tk x (s .pre .0) .rises, (search needs, corners tc tk x (s .pre .0) .few))
 
--- src/lib.rt:496:53
 slice-aggregate-number-slots : tie.Need-slice-aggregate-number-slots
 slice-aggregate-number-slots c = search needs
 
--- src/lib.rt:496:60
 slice-aggregate-number-slots-2 : tie.Need-slice-aggregate-number-slots-2
 slice-aggregate-number-slots-2 c = search needs
 
--- src/lib.rt:496:69
 slice-aggregate-number-slots-3 : tie.Need-slice-aggregate-number-slots-3
 slice-aggregate-number-slots-3 c = search needs
 
--- src/lib.rt:496:83
 slice-aggregate-number-slots-4 : tie.Need-slice-aggregate-number-slots-4
 slice-aggregate-number-slots-4 c = search needs
 
--- src/lib.rt:496:9
 number-slots-requires : tie.Need-number-slots-requires
 number-slots-requires c κs =
     let s = c .before .before .before .before .before .before .before .before .before .before .before .before .before .before .before .before .before .before .before .before .before in
@@ -116,27 +95,21 @@ number-slots-requires c κs =
       ),
     )
 
--- src/lib.rt:497:44
 slice-aggregate-edge-answer : tie.Need-slice-aggregate-edge-answer
 slice-aggregate-edge-answer c = search needs
 
--- src/lib.rt:497:51
 slice-aggregate-edge-answer-2 : tie.Need-slice-aggregate-edge-answer-2
 slice-aggregate-edge-answer-2 c = search needs
 
--- src/lib.rt:497:60
 slice-aggregate-edge-answer-3 : tie.Need-slice-aggregate-edge-answer-3
 slice-aggregate-edge-answer-3 c = search needs
 
--- src/lib.rt:497:70
 slice-aggregate-edge-answer-4 : tie.Need-slice-aggregate-edge-answer-4
 slice-aggregate-edge-answer-4 c = search needs
 
--- src/lib.rt:497:80
 slice-aggregate-edge-answer-5 : tie.Need-slice-aggregate-edge-answer-5
 slice-aggregate-edge-answer-5 c = search needs
 
--- src/lib.rt:497:5
 edge-answer-requires : tie.Need-edge-answer-requires
 edge-answer-requires c κs =
     let s = c .before .before .before .before .before .before .before .before .before .before .before .before .before .before .before .before .before .before .before .before .before .before .before .before .before .before .before .before .before in
@@ -150,7 +123,6 @@ edge-answer-requires c κs =
       ),
     )
 
--- src/lib.rt:481:1
 returns : tie.Need-returns
 returns c = search needs
 

@@ -1,3 +1,4 @@
+-- `edges::ends::edge_point` meets its contract: the two records are the corners at the ends of the edge.
 use Rattle.edges.proofs.Places.{spot-read}
 use Rattle.edges.proofs.Find.{found}
 use Rattle.edges.specs.Tables.{placeAt}
@@ -12,33 +13,22 @@ use native.Mathlib.Omega.{arith}
 use borrow.Author.Needs.{needs}
 use Rattle.edges.proofs.ends.edge_point.Statement.{statement}
 use Rattle.edges.proofs.ends.edge_point.Tie as tie
-use Rattle.edges.proofs.ends.edge_point.Reads as reads
-use Rattle.edges.proofs.ends.edge_point.Lts as lts
-use Rattle.cells.proofs.size_of.Reads as size-of-reads
-use Rattle.edges.proofs.ends.upper_end.Reads as upper-end-reads
-use Rattle.places.proofs.point_of.Reads as point-of-reads
-use Rattle.records.proofs.corner_at.Reads as corner-at-reads
 
--- src/lib.rt:405:9
 upper-end-requires : tie.Need-upper-end-requires
 upper-end-requires c κs = search needs
 
--- src/lib.rt:406:9
 corner-at-requires : tie.Need-corner-at-requires
 corner-at-requires c κs = search needs
 
--- src/lib.rt:407:9
 corner-at-requires-2 : tie.Need-corner-at-requires-2
 corner-at-requires-2 c κs =
     let s = c .before .before .before in
     let t = s .args .corners .now in
     omega (arith, found t (c .before .before .shared-slice-known .given) (s .pre .0 .rises) _ (s .pre .1 .2) .0, c .before .upper-end .ensures)
 
--- src/lib.rt:408:42
 size-of-requires : tie.Need-size-of-requires
 size-of-requires c κs = search needs
 
--- src/lib.rt:408:42
 cast-point-of : tie.Need-cast-point-of
 cast-point-of c = omega (
   arith,
@@ -46,11 +36,9 @@ cast-point-of c = omega (
   c .size-of .ensures,
 )
 
--- src/lib.rt:408:5
 point-of-requires : tie.Need-point-of-requires
 point-of-requires c κs = search needs
 
--- src/lib.rt:400:1
 returns : tie.Need-returns
 returns c =
     let s = c .before .before .before .before .before .before in

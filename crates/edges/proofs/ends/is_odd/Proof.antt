@@ -1,3 +1,4 @@
+-- `edges::ends::is_odd` meets its contract: the marks at the two records differ just if the edge is odd.
 use Rattle.edges.proofs.Readings.{odd-read}
 use Rattle.edges.proofs.Find.{found}
 use Rattle.edges.specs.Tables.{placeAt}
@@ -10,19 +11,13 @@ use native.Mathlib.Omega.{arith}
 use borrow.Author.Needs.{needs}
 use Rattle.edges.proofs.ends.is_odd.Statement.{statement}
 use Rattle.edges.proofs.ends.is_odd.Tie as tie
-use Rattle.edges.proofs.ends.is_odd.Reads as reads
-use Rattle.edges.proofs.ends.is_odd.Lts as lts
-use Rattle.edges.proofs.ends.upper_end.Reads as upper-end-reads
 
--- src/lib.rt:178:5
 shared-slice-read-result : tie.Need-shared-slice-read-result
 shared-slice-read-result c = search needs
 
--- src/lib.rt:178:21
 upper-end-requires : tie.Need-upper-end-requires
 upper-end-requires c κs = search needs
 
--- src/lib.rt:178:16
 shared-slice-read-result-2 : tie.Need-shared-slice-read-result-2
 shared-slice-read-result-2 c =
     let s = c .before .before .before .before .before in
@@ -30,7 +25,6 @@ shared-slice-read-result-2 c =
     let f = found t (c .before .before .before .before .shared-slice-known .given) (s .pre .0 .rises) _ (s .pre .1 .1 .2) in
     omega (arith, f .0, c .before .upper-end .ensures, s .pre .0 .few, s .pre .1 .0 .size)
 
--- src/lib.rt:172:1
 returns : tie.Need-returns
 returns c =
     let s = c .before .before .before .before .before in

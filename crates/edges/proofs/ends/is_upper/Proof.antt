@@ -1,3 +1,4 @@
+-- `edges::ends::is_upper` meets its contract: the coordinate as the record has it.
 use Rattle.edges.proofs.Climbing.{upper-read}
 use Rattle.rules.specs.declared.Corner.{Corner}
 use Rattle.rules.specs.Survey.{placeOf}
@@ -8,33 +9,22 @@ use native.Mathlib.Omega.{arith}
 use borrow.Author.Needs.{needs}
 use Rattle.edges.proofs.ends.is_upper.Statement.{statement}
 use Rattle.edges.proofs.ends.is_upper.Tie as tie
-use Rattle.edges.proofs.ends.is_upper.Reads as reads
-use Rattle.edges.proofs.ends.is_upper.Lts as lts
-use Rattle.cells.proofs.size_of.Reads as size-of-reads
-use Rattle.places.proofs.coordinate.Reads as coordinate-reads
-use Rattle.records.proofs.corner_at.Reads as corner-at-reads
 
--- src/lib.rt:274:9
 size-of-requires : tie.Need-size-of-requires
 size-of-requires c κs = search needs
 
--- src/lib.rt:275:32
 corner-at-requires : tie.Need-corner-at-requires
 corner-at-requires c κs = search needs
 
--- src/lib.rt:275:13
 coordinate-requires : tie.Need-coordinate-requires
 coordinate-requires c κs = search needs
 
--- src/lib.rt:275:13
 cast-v : tie.Need-cast-v
 cast-v c = search needs
 
--- src/lib.rt:276:5
 div-result : tie.Need-div-result
 div-result c = omega (arith, pow-pos (c .before .before .before .before .args .level), c .before .before .size-of .ensures)
 
--- src/lib.rt:270:1
 returns : tie.Need-returns
 returns c =
     let s = c .before .before .before .before in

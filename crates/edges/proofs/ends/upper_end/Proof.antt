@@ -1,3 +1,4 @@
+-- `edges::ends::upper_end` meets its contract: the key of the upper end, and the record found by it.
 use Rattle.base.specs.Grid.{axisOf}
 use Rattle.edges.proofs.Readings.{upper-key}
 use Rattle.records.proofs.Keys.{get-place}
@@ -7,28 +8,19 @@ use native.Mathlib.Omega.{arith}
 use borrow.Author.Needs.{needs}
 use Rattle.edges.proofs.ends.upper_end.Statement.{statement}
 use Rattle.edges.proofs.ends.upper_end.Tie as tie
-use Rattle.edges.proofs.ends.upper_end.Reads as reads
-use Rattle.edges.proofs.ends.upper_end.Lts as lts
-use Rattle.edges.proofs.keys.step.Reads as step-reads
-use Rattle.records.proofs.find.Reads as find-reads
-use Rattle.records.proofs.key_at.Reads as key-at-reads
 
--- src/lib.rt:168:53
 key-at-requires : tie.Need-key-at-requires
 key-at-requires c κs = search needs
 
--- src/lib.rt:168:48
 step-requires : tie.Need-step-requires
 step-requires c κs =
     let s = c .before .before in
     let t = s .args .corners .now in
     (omega (arith, s .pre .0 .small (s .args .k) (s .pre .1 .0), ap keyOf (get-place t (s .args .k) (s .pre .1 .0)), c .key-at .ensures), s .pre .1 .1)
 
--- src/lib.rt:168:5
 find-requires : tie.Need-find-requires
 find-requires c κs = search needs
 
--- src/lib.rt:163:1
 returns : tie.Need-returns
 returns c =
     let s = c .before .before .before .before in

@@ -1,3 +1,4 @@
+-- `edges::keys::level_of` meets its contract: before each turn the levels passed are not that of the length.
 use Rattle.edges.proofs.Enquiring.{levelFrom, level-start, level-hit, level-miss}
 use Rattle.cells.proofs.Octants.{size-fits}
 use Rattle.rules.specs.Outputs.{levelOf}
@@ -9,8 +10,6 @@ use native.Mathlib.Omega.{arith}
 use borrow.Author.Needs.{needs}
 use Rattle.edges.proofs.keys.level_of.Statement.{statement}
 use Rattle.edges.proofs.keys.level_of.Tie as tie
-use Rattle.edges.proofs.keys.level_of.Reads as reads
-use Rattle.edges.proofs.keys.level_of.Lts as lts
 
 abbrev Inv-loop : tie.InvT-loop
 Inv-loop size level₀ power₀ level power = (level ≤ 11) × (power ≡ 2 ^ level) × (levelOf size ≡ levelFrom size level (11 - level))
@@ -18,11 +17,9 @@ Inv-loop size level₀ power₀ level power = (level ≤ 11) × (power ≡ 2 ^ l
 abbrev μ-loop : tie.MeasureT-loop
 μ-loop size level₀ power₀ level power = 11 - level
 
--- src/lib.rt:446:5
 loop-holds : tie.Need-loop-holds Inv-loop μ-loop
 loop-holds c = (omega arith, refl, level-start (c .args .size))
 
--- src/lib.rt:448:13
 returns : tie.Need-returns Inv-loop μ-loop
 returns c =
     let l = c .before .before in
@@ -30,21 +27,17 @@ returns c =
     sym (l .loop .inv .2 ∙ ap (levelFrom (l .before .args .size) (l .loop .level)) q ∙ level-hit (l .before .args .size) (l .loop .level)
     (10 - l .loop .level) (sym (l .loop .inv .1) ∙ c .if1 .taken))
 
--- src/lib.rt:450:9
 mul-power : tie.Need-mul-power Inv-loop μ-loop
 mul-power c =
     let l = c .before .before in
     omega (arith, size-fits (l .loop .level) (omega arith), l .loop .inv .1)
 
--- src/lib.rt:451:9
 add-level : tie.Need-add-level Inv-loop μ-loop
 add-level c = search needs
 
--- src/lib.rt:446:5
 loop-less : tie.Need-loop-less Inv-loop μ-loop
 loop-less c = search needs
 
--- src/lib.rt:446:5
 loop-again : tie.Need-loop-again Inv-loop μ-loop
 loop-again c =
     let l = c .before .before in
@@ -58,7 +51,6 @@ loop-again c =
           (10 - l .loop .level) (λ e. c .if1 .left (l .loop .inv .1 ∙ e)) ∙ (λ i. levelFrom (l .before .args .size) (u i) (w i)),
     )
 
--- src/lib.rt:441:1
 returns-2 : tie.Need-returns-2 Inv-loop μ-loop
 returns-2 c =
     let l = c .before in

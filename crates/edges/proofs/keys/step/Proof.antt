@@ -1,3 +1,4 @@
+-- `edges::keys::step` meets its contract: the sum fits, since the length is at most 1,024.
 use Rattle.edges.proofs.Find.{step-fits}
 use Prim.Native.Nat.{ℕ, _+_, _*_, _^_, _≤_}
 use mathlib.Core.Path.{_≡_, ap, _∙_}
@@ -5,20 +6,13 @@ use native.Mathlib.Omega.{arith}
 use borrow.Author.Needs.{needs}
 use Rattle.edges.proofs.keys.step.Statement.{statement}
 use Rattle.edges.proofs.keys.step.Tie as tie
-use Rattle.edges.proofs.keys.step.Reads as reads
-use Rattle.edges.proofs.keys.step.Lts as lts
-use Rattle.cells.proofs.size_of.Reads as size-of-reads
-use Rattle.edges.proofs.keys.unit.Reads as unit-reads
 
--- src/lib.rt:69:11
 size-of-requires : tie.Need-size-of-requires
 size-of-requires c κs = search needs
 
--- src/lib.rt:69:35
 unit-requires : tie.Need-unit-requires
 unit-requires c κs = search needs
 
--- src/lib.rt:69:11
 mul-result : tie.Need-mul-result
 mul-result c =
     let s = c .before .before in
@@ -26,7 +20,6 @@ mul-result c =
     (s .pre .1) (c .unit .ensures .1)) in
     omega arith
 
--- src/lib.rt:69:5
 add-result : tie.Need-add-result
 add-result c =
     let s = c .before .before in
@@ -34,7 +27,6 @@ add-result c =
     (s .pre .1) (c .unit .ensures .1)) in
     omega arith
 
--- src/lib.rt:65:1
 returns : tie.Need-returns
 returns c =
     let s = c .before .before in

@@ -1,3 +1,4 @@
+-- `edges::keys::step_back` meets its contract: the difference does not wrap, since the place has room.
 use Rattle.edges.proofs.Find.{step-fits}
 use Prim.Native.Nat.{ℕ, _-_, _*_, _^_, _≤_}
 use mathlib.Core.Path.{_≡_, refl, sym, ap, _∙_}
@@ -5,20 +6,13 @@ use native.Mathlib.Omega.{arith}
 use borrow.Author.Needs.{needs}
 use Rattle.edges.proofs.keys.step_back.Statement.{statement}
 use Rattle.edges.proofs.keys.step_back.Tie as tie
-use Rattle.edges.proofs.keys.step_back.Reads as reads
-use Rattle.edges.proofs.keys.step_back.Lts as lts
-use Rattle.cells.proofs.size_of.Reads as size-of-reads
-use Rattle.edges.proofs.keys.unit.Reads as unit-reads
 
--- src/lib.rt:284:11
 size-of-requires : tie.Need-size-of-requires
 size-of-requires c κs = search needs
 
--- src/lib.rt:284:35
 unit-requires : tie.Need-unit-requires
 unit-requires c κs = search needs
 
--- src/lib.rt:284:11
 mul-result : tie.Need-mul-result
 mul-result c =
     let s = c .before .before in
@@ -26,14 +20,12 @@ mul-result c =
     (s .pre .1) (c .unit .ensures .1)) in
     omega arith
 
--- src/lib.rt:284:5
 sub-result : tie.Need-sub-result
 sub-result c =
     let s = c .before .before in
     let h : c .before .size-of .result * c .unit .result ≤ s .args .key = rw (c .before .size-of .ensures, c .unit .ensures .0) (s .pre .0) in
     omega arith
 
--- src/lib.rt:280:1
 returns : tie.Need-returns
 returns c = λ i. c .before .before .args .key - c .before .size-of .ensures i * c .unit .ensures .0 i
 

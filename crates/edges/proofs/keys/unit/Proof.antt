@@ -1,21 +1,17 @@
+-- `edges::keys::unit` meets its contract: each test picks its axis.
 use lib.Dec.{lit≤}
 use native.Mathlib.Omega.{arith}
 use Rattle.edges.proofs.Find.{axis-z}
 use borrow.Author.Needs.{needs}
 use Rattle.edges.proofs.keys.unit.Statement.{statement}
 use Rattle.edges.proofs.keys.unit.Tie as tie
-use Rattle.edges.proofs.keys.unit.Reads as reads
-use Rattle.edges.proofs.keys.unit.Lts as lts
 
--- src/lib.rt:43:9
 returns : tie.Need-returns
 returns c = search needs
 
--- src/lib.rt:46:9
 returns-2 : tie.Need-returns-2
 returns-2 c = search needs
 
--- src/lib.rt:39:1
 returns-3 : tie.Need-returns-3
 returns-3 c = (rw (axis-z (c .before .before .args .axis) (c .before .if1 .left) (c .if2 .left)), lit≤ tt)
 

@@ -1,3 +1,4 @@
+-- `edges::pairs::climb` meets its contract: before each turn the edge at hand is odd and the twin of its point is the twin sought; one more level is left than the climb can take.
 use Rattle.edges.proofs.Twins.{Climbed, climb-ends, above-level, above-upper-listed, climb-on, other-edge, climb-turns}
 use Rattle.edges.proofs.Climbing.{above-short}
 use Rattle.edges.proofs.Descent.{odd-level}
@@ -15,14 +16,6 @@ use native.Mathlib.Omega.{arith}
 use borrow.Author.Needs.{needs}
 use Rattle.edges.proofs.pairs.climb.Statement.{statement}
 use Rattle.edges.proofs.pairs.climb.Tie as tie
-use Rattle.edges.proofs.pairs.climb.Reads as reads
-use Rattle.edges.proofs.pairs.climb.Lts as lts
-use Rattle.edges.proofs.ends.above_key.Reads as above-key-reads
-use Rattle.edges.proofs.edge_record.Reads as edge-record-reads
-use Rattle.edges.proofs.ends.is_odd.Reads as is-odd-reads
-use Rattle.edges.proofs.ends.other_key.Reads as other-key-reads
-use Rattle.edges.proofs.point_of.Reads as point-of-reads
-use Rattle.records.proofs.find.Reads as find-reads
 
 abbrev Inv-loop : tie.InvT-loop
 Inv-loop cells corners clearance wets lowest highest numbers axis start bottom v count k₀ level₀ k level = Climbed cells corners clearance (axisOf axis)
@@ -31,7 +24,6 @@ Inv-loop cells corners clearance wets lowest highest numbers axis start bottom v
 abbrev μ-loop : tie.MeasureT-loop
 μ-loop cells corners clearance wets lowest highest numbers axis start bottom v count k₀ level₀ k level = 10 - level
 
--- src/lib.rt:350:5
 loop-holds : tie.Need-loop-holds Inv-loop μ-loop
 loop-holds c =
     let s = c .before .before .before .before .before .before in
@@ -42,7 +34,6 @@ loop-holds c =
       refl,
     )
 
--- src/lib.rt:351:80
 above-key-requires : tie.Need-above-key-requires Inv-loop μ-loop
 above-key-requires c κs =
     let l = c in
@@ -59,7 +50,6 @@ above-key-requires c κs =
     let top = odd-level tc tk v (s .pre .0) (s .args .lowest .now) (s .pre .1 .1 .0) n g k m (i .odd-edge) in
     (corners tc tk v (s .pre .0), (i .odd-edge .inside, top))
 
--- src/lib.rt:351:116
 add-edge-record : tie.Need-add-edge-record Inv-loop μ-loop
 add-edge-record c =
     let l = c .before in
@@ -76,7 +66,6 @@ add-edge-record c =
     let top = odd-level tc tk v (s .pre .0) (s .args .lowest .now) (s .pre .1 .1 .0) n g k m (i .odd-edge) in
     omega arith
 
--- src/lib.rt:351:13
 edge-record-requires : tie.Need-edge-record-requires Inv-loop μ-loop
 edge-record-requires c κs =
     let l = c .before in
@@ -93,7 +82,6 @@ edge-record-requires c κs =
     let top = odd-level tc tk v (s .pre .0) (s .args .lowest .now) (s .pre .1 .1 .0) n g k m (i .odd-edge) in
     (s .pre .0, (s .pre .1 .1 .0, (s .pre .1 .1 .1 .0, g)))
 
--- src/lib.rt:353:13
 returns : tie.Need-returns Inv-loop μ-loop
 returns c =
     let l = c .before .before .before in
@@ -115,7 +103,6 @@ returns c =
     let up = c .before .edge-record .result in
     climb-ends tc tk v (s .pre .0) a (s .args .start) (s .args .bottom) k m (m + 1) up (s .args .v) i q f (omega arith)
 
--- src/lib.rt:355:56
 add-is-odd : tie.Need-add-is-odd Inv-loop μ-loop
 add-is-odd c =
     let l = c .before .before .before in
@@ -132,7 +119,6 @@ add-is-odd c =
     let top = odd-level tc tk v (s .pre .0) (s .args .lowest .now) (s .pre .1 .1 .0) n g k m (i .odd-edge) in
     omega arith
 
--- src/lib.rt:355:13
 is-odd-requires : tie.Need-is-odd-requires Inv-loop μ-loop
 is-odd-requires c κs =
     let l = c .before .before .before in
@@ -165,7 +151,6 @@ is-odd-requires c κs =
       ),
     )
 
--- src/lib.rt:356:54
 other-key-requires : tie.Need-other-key-requires Inv-loop μ-loop
 other-key-requires c κs =
     let l = c .before .before .before .before .before in
@@ -182,7 +167,6 @@ other-key-requires c κs =
     let top = odd-level tc tk v (s .pre .0) (s .args .lowest .now) (s .pre .1 .1 .0) n g k m (i .odd-edge) in
     (corners tc tk v (s .pre .0), (i .odd-edge .inside, top))
 
--- src/lib.rt:356:17
 find-requires : tie.Need-find-requires Inv-loop μ-loop
 find-requires c κs =
     let l = c .before .before .before .before .before .before in
@@ -199,7 +183,6 @@ find-requires c κs =
     let top = odd-level tc tk v (s .pre .0) (s .args .lowest .now) (s .pre .1 .1 .0) n g k m (i .odd-edge) in
     (l .loop .inv .2, corners tc tk v (s .pre .0) .rises)
 
--- src/lib.rt:357:13
 point-of-requires : tie.Need-point-of-requires Inv-loop μ-loop
 point-of-requires c κs =
     let l = c .before .before .before .before .before .before .before in
@@ -239,7 +222,6 @@ point-of-requires c κs =
       ),
     )
 
--- src/lib.rt:357:13
 returns-2 : tie.Need-returns-2 Inv-loop μ-loop
 returns-2 c =
     let l = c .before .before .before .before .before .before .before .before in
@@ -265,7 +247,6 @@ returns-2 c =
     (l .before .before .before .before .before .shared-slice-known2 .given) (sym (c .before .before .before .before .is-odd .ensures) ∙ o)
     (c .before .find .result) (c .before .find .ensures ∙ ap (recordAt tk) (c .before .before .other-key .ensures))
 
--- src/lib.rt:360:9
 add-level : tie.Need-add-level Inv-loop μ-loop
 add-level c =
     let l = c .before .before .before .before .before in
@@ -282,7 +263,6 @@ add-level c =
     let top = odd-level tc tk v (s .pre .0) (s .args .lowest .now) (s .pre .1 .1 .0) n g k m (i .odd-edge) in
     omega arith
 
--- src/lib.rt:350:5
 loop-less : tie.Need-loop-less Inv-loop μ-loop
 loop-less c =
     let l = c .before .before .before .before .before in
@@ -305,7 +285,6 @@ loop-less c =
     let h : up < length tk / 10 = omega arith in
     omega (arith, above-level tc tk v (s .pre .0) a (s .args .start) (s .args .bottom) k m (m + 1) up (s .args .v) i q f h)
 
--- src/lib.rt:350:5
 loop-again : tie.Need-loop-again Inv-loop μ-loop
 loop-again c =
     let l = c .before .before .before .before .before in

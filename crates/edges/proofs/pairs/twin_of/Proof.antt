@@ -1,3 +1,4 @@
+-- `edges::pairs::twin_of` meets its contract: the slot of a point is that of the odd edge that carries it.
 use mir.Val.{Fits}
 use Rattle.edges.proofs.TwinSlots.{slot-inside, point-odd-edge, twin-is}
 use mathlib.Core.Path.{_≡_, refl, sym, ap, _∙_}
@@ -5,19 +6,13 @@ use native.Mathlib.Omega.{arith}
 use borrow.Author.Needs.{needs}
 use Rattle.edges.proofs.pairs.twin_of.Statement.{statement}
 use Rattle.edges.proofs.pairs.twin_of.Tie as tie
-use Rattle.edges.proofs.pairs.twin_of.Reads as reads
-use Rattle.edges.proofs.pairs.twin_of.Lts as lts
-use Rattle.edges.proofs.pairs.climb.Reads as climb-reads
 
--- src/lib.rt:375:16
 mul-slot : tie.Need-mul-slot
 mul-slot c = search needs
 
--- src/lib.rt:375:16
 shared-slice-read-slot : tie.Need-shared-slice-read-slot
 shared-slice-read-slot c = search needs
 
--- src/lib.rt:375:16
 cast-slot : tie.Need-cast-slot
 cast-slot c =
     let s = c .before .before .before .before .before .before .before .before in
@@ -30,7 +25,6 @@ cast-slot c =
     let i = slot-inside tc tk x (s .pre .0) (s .args .lowest .now) low (s .args .slots .now) at (s .args .v) h in
     omega arith
 
--- src/lib.rt:376:70
 cast-climb : tie.Need-cast-climb
 cast-climb c =
     let s = c .before .before .before .before .before .before .before .before in
@@ -43,7 +37,6 @@ cast-climb c =
     let i = slot-inside tc tk x (s .pre .0) (s .args .lowest .now) low (s .args .slots .now) at (s .args .v) h in
     omega arith
 
--- src/lib.rt:376:105
 shared-slice-read-climb : tie.Need-shared-slice-read-climb
 shared-slice-read-climb c =
     let s = c .before .before .before .before .before .before .before .before .before in
@@ -56,11 +49,9 @@ shared-slice-read-climb c =
     let i = slot-inside tc tk x (s .pre .0) (s .args .lowest .now) low (s .args .slots .now) at (s .args .v) h in
     omega (arith, low .size)
 
--- src/lib.rt:376:119
 cast-climb-2 : tie.Need-cast-climb-2
 cast-climb-2 c = search needs
 
--- src/lib.rt:376:5
 climb-requires : tie.Need-climb-requires
 climb-requires c κs =
     let s = c .before .before .before .before .before .before .before .before .before in
@@ -91,7 +82,6 @@ climb-requires c κs =
       ),
     )
 
--- src/lib.rt:365:1
 returns : tie.Need-returns
 returns c =
     let s = c .before .before .before .before .before .before .before .before .before .before in
