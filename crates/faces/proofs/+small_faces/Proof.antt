@@ -1,3 +1,4 @@
+-- `faces::small_faces` meets its contract: a leaf across leaves the face whole; a split cell is gone down into, quarter by quarter.
 use denote.Ref.{now}
 use mathlib.Core.Path.{_∙_, sym}
 use native.Mathlib.Omega.{arith}
@@ -32,7 +33,6 @@ abbrev small-faces-below : ℕ → In 8 small-faces-kinds.ps
 small-faces-below t =
     and 8 small-faces-kinds.ps (falls 8 small-faces-kinds.ps _<_ μ-small-faces t) small-faces.Pre
 
--- src/lib.rt:295:13
 small-faces-cell-entry-requires : (t : ℕ) → small-faces-lts.Need-cell-entry-requires (
   cell-entry-reads.Asked,
   cell-entry-reads.Learnt,
@@ -55,7 +55,6 @@ small-faces-cell-entry-requires : (t : ℕ) → small-faces-lts.Need-cell-entry-
 ) (small-faces-at t) small-faces.Post
 small-faces-cell-entry-requires t c κs = search needs
 
--- src/lib.rt:295:13
 small-faces-cast-e : (t : ℕ) → small-faces-lts.Need-cast-e (
   cell-entry-reads.Asked,
   cell-entry-reads.Learnt,
@@ -78,7 +77,6 @@ small-faces-cast-e : (t : ℕ) → small-faces-lts.Need-cast-e (
 ) (small-faces-at t) small-faces.Post
 small-faces-cast-e t c = search needs
 
--- src/lib.rt:297:13
 small-faces-face-pattern-requires : (t : ℕ) → small-faces-lts.Need-face-pattern-requires (
   cell-entry-reads.Asked,
   cell-entry-reads.Learnt,
@@ -103,7 +101,6 @@ small-faces-face-pattern-requires t c κs =
     let s = c .before .before .before .before .before .before .before .before .before .before in
     (s .pre .1 .0 .passed, (marked (now (s .args .cells)) (now (s .args .corners)) (s .args .clearance) (s .pre .1 .0 .passed) (now (s .args .wets)) (s .pre .1 .0 .wet), faced (now (s .args .cells)) (now (s .args .corners)) (s .args .clearance) (grown (now (s .args .cells)) (now (s .args .corners)) (s .args .clearance) (s .pre .1 .0 .passed)) (s .args .axis) (s .args .upper) (s .args .key) (s .args .level) (s .args .n) (s .pre .1 .1 .1)))
 
--- src/lib.rt:298:9
 small-faces-face-steps-requires : (t : ℕ) → small-faces-lts.Need-face-steps-requires (
   cell-entry-reads.Asked,
   cell-entry-reads.Learnt,
@@ -129,7 +126,6 @@ small-faces-face-steps-requires t c κs =
     let p = c .before .before .before in
     (s .pre .1 .0, (s .pre .1 .1 .0, (faced (now (s .args .cells)) (now (s .args .corners)) (s .args .clearance) (grown (now (s .args .cells)) (now (s .args .corners)) (s .args .clearance) (s .pre .1 .0 .passed)) (s .args .axis) (s .args .upper) (s .args .key) (s .args .level) (s .args .n) (s .pre .1 .1 .1), (p .face-pattern .ensures .1, p .face-pattern .ensures .0))))
 
--- src/lib.rt:299:9
 small-faces-same-length : (t : ℕ) → small-faces-lts.Need-same-length (
   cell-entry-reads.Asked,
   cell-entry-reads.Learnt,
@@ -154,7 +150,6 @@ small-faces-same-length t c =
     let f = c .before .before .before .before .before .before in
     f .face-steps .ensures .sized .points ∙ sym (f .before .before .before .before .before .before .before .before .before .before .before .before .before .before .before .pre .1 .1 .0 .points)
 
--- src/lib.rt:299:9
 small-faces-same-length-2 : (t : ℕ) → small-faces-lts.Need-same-length-2 (
   cell-entry-reads.Asked,
   cell-entry-reads.Learnt,
@@ -179,7 +174,6 @@ small-faces-same-length-2 t c =
     let f = c .before .before .before .before .before .before in
     f .face-steps .ensures .sized .same ∙ sym (f .before .before .before .before .before .before .before .before .before .before .before .before .before .before .before .pre .1 .1 .0 .same)
 
--- src/lib.rt:299:9
 small-faces-same-length-3 : (t : ℕ) → small-faces-lts.Need-same-length-3 (
   cell-entry-reads.Asked,
   cell-entry-reads.Learnt,
@@ -204,7 +198,6 @@ small-faces-same-length-3 t c =
     let f = c .before .before .before .before .before .before in
     f .face-steps .ensures .sized .groups ∙ sym (f .before .before .before .before .before .before .before .before .before .before .before .before .before .before .before .pre .1 .1 .0 .groups)
 
--- src/lib.rt:299:9
 small-faces-returns : (t : ℕ) → small-faces-lts.Need-returns (
   cell-entry-reads.Asked,
   cell-entry-reads.Learnt,
@@ -232,7 +225,6 @@ small-faces-returns t c =
     let s = y .before .before .before .before .before .before .before .before .before in
     whole-recorded (now (s .args .cells)) (now (s .args .corners)) (s .args .clearance) (grown (now (s .args .cells)) (now (s .args .corners)) (s .args .clearance) (s .pre .1 .0 .passed)) (s .args .axis) (s .args .upper) (s .args .key) (s .args .level) (s .args .n) (s .pre .1 .1 .1) (y .cell-entry .result) _ _ (y .cell-entry .ensures) (z .if1 .taken) (f .face-steps .ensures)
 
--- src/lib.rt:301:16
 small-faces-sub-half : (t : ℕ) → small-faces-lts.Need-sub-half (
   cell-entry-reads.Asked,
   cell-entry-reads.Learnt,
@@ -260,7 +252,6 @@ small-faces-sub-half t c =
     let l = above-zero (now (s .args .cells)) (now (s .args .corners)) (s .args .clearance) (grown (now (s .args .cells)) (now (s .args .corners)) (s .args .clearance) (s .pre .1 .0 .passed)) (s .args .axis) (s .args .upper) (s .args .key) (s .args .level) (s .args .n) (s .pre .1 .1 .1) (y .cell-entry .result) (y .cell-entry .ensures) (z .if1 .left) in
     search needs
 
--- src/lib.rt:302:9
 small-faces-right-requires : (t : ℕ) → small-faces-lts.Need-right-requires (
   cell-entry-reads.Asked,
   cell-entry-reads.Learnt,
@@ -285,7 +276,6 @@ small-faces-right-requires t c κs =
     let s = c .before .before .before .before .before .before .before .before .before .before in
     s .pre .1 .1 .1 .axis-less
 
--- src/lib.rt:303:9
 small-faces-up-requires : (t : ℕ) → small-faces-lts.Need-up-requires (
   cell-entry-reads.Asked,
   cell-entry-reads.Learnt,
@@ -310,7 +300,6 @@ small-faces-up-requires t c κs =
     let s = c .before .before .before .before .before .before .before .before .before .before .before in
     s .pre .1 .1 .1 .axis-less
 
--- src/lib.rt:304:20
 small-faces-side-bit-requires : (t : ℕ) → small-faces-lts.Need-side-bit-requires (
   cell-entry-reads.Asked,
   cell-entry-reads.Learnt,
@@ -333,7 +322,6 @@ small-faces-side-bit-requires : (t : ℕ) → small-faces-lts.Need-side-bit-requ
 ) (small-faces-at t) small-faces.Post
 small-faces-side-bit-requires t c κs = search needs
 
--- src/lib.rt:304:16
 small-faces-add-near : (t : ℕ) → small-faces-lts.Need-add-near (
   cell-entry-reads.Asked,
   cell-entry-reads.Learnt,
@@ -362,7 +350,6 @@ small-faces-add-near t c =
     let l = children-inside (now (s .args .cells)) (now (s .args .corners)) (s .args .clearance) (grown (now (s .args .cells)) (now (s .args .corners)) (s .args .clearance) (s .pre .1 .0 .passed)) (s .args .axis) (s .args .upper) (s .args .key) (s .args .level) (s .args .n) (s .pre .1 .1 .1) (y .cell-entry .result) (y .cell-entry .ensures) (z .if1 .left) in
     search needs
 
--- src/lib.rt:305:25
 small-faces-octant-bit-requires : (t : ℕ) → small-faces-lts.Need-octant-bit-requires (
   cell-entry-reads.Asked,
   cell-entry-reads.Learnt,
@@ -385,7 +372,6 @@ small-faces-octant-bit-requires : (t : ℕ) → small-faces-lts.Need-octant-bit-
 ) (small-faces-at t) small-faces.Post
 small-faces-octant-bit-requires t c κs = search needs
 
--- src/lib.rt:305:18
 small-faces-add-beside : (t : ℕ) → small-faces-lts.Need-add-beside (
   cell-entry-reads.Asked,
   cell-entry-reads.Learnt,
@@ -414,7 +400,6 @@ small-faces-add-beside t c =
     let l = children-inside (now (s .args .cells)) (now (s .args .corners)) (s .args .clearance) (grown (now (s .args .cells)) (now (s .args .corners)) (s .args .clearance) (s .pre .1 .0 .passed)) (s .args .axis) (s .args .upper) (s .args .key) (s .args .level) (s .args .n) (s .pre .1 .1 .1) (y .cell-entry .result) (y .cell-entry .ensures) (z .if1 .left) in
     search needs
 
--- src/lib.rt:306:9
 small-faces-octant-bit-requires-2 : (t : ℕ) → small-faces-lts.Need-octant-bit-requires-2 (
   cell-entry-reads.Asked,
   cell-entry-reads.Learnt,
@@ -437,7 +422,6 @@ small-faces-octant-bit-requires-2 : (t : ℕ) → small-faces-lts.Need-octant-bi
 ) (small-faces-at t) small-faces.Post
 small-faces-octant-bit-requires-2 t c κs = search needs
 
--- src/lib.rt:307:9
 small-faces-moved-requires : (t : ℕ) → small-faces-lts.Need-moved-requires (
   cell-entry-reads.Asked,
   cell-entry-reads.Learnt,
@@ -469,7 +453,6 @@ small-faces-moved-requires t c κs =
     let s = y .before .before .before .before .before .before .before .before .before in
     up-ready (s .args .axis) (s .args .upper) (s .args .key) _ (face-room (now (s .args .cells)) (now (s .args .corners)) (s .args .clearance) (s .pre .1 .0 .passed) (s .args .axis) (s .args .upper) (s .args .key) _ (faced (now (s .args .cells)) (now (s .args .corners)) (s .args .clearance) (grown (now (s .args .cells)) (now (s .args .corners)) (s .args .clearance) (s .pre .1 .0 .passed)) (s .args .axis) (s .args .upper) (s .args .key) _ _ (near-across (now (s .args .cells)) (now (s .args .corners)) (s .args .clearance) (grown (now (s .args .cells)) (now (s .args .corners)) (s .args .clearance) (s .pre .1 .0 .passed)) (s .args .axis) (s .args .upper) (s .args .key) (s .args .level) (s .args .n) (s .pre .1 .1 .1) (y .cell-entry .result) (y .cell-entry .ensures) (z .if1 .left) (b .side-bit .result) (b .side-bit .ensures .0)))) (u .up .result) (u .up .ensures .0)
 
--- src/lib.rt:308:5
 small-faces-small-faces-requires : (t : ℕ) → small-faces-lts.Need-small-faces-requires (
   cell-entry-reads.Asked,
   cell-entry-reads.Learnt,
@@ -501,7 +484,6 @@ small-faces-small-faces-requires t c κs =
     let s = y .before .before .before .before .before .before .before .before .before in
     ((let l = above-zero (now (s .args .cells)) (now (s .args .corners)) (s .args .clearance) (grown (now (s .args .cells)) (now (s .args .corners)) (s .args .clearance) (s .pre .1 .0 .passed)) (s .args .axis) (s .args .upper) (s .args .key) (s .args .level) (s .args .n) (s .pre .1 .1 .1) (y .cell-entry .result) (y .cell-entry .ensures) (z .if1 .left) in omega arith), (s .pre .1 .0, (s .pre .1 .1 .0, (near-across (now (s .args .cells)) (now (s .args .corners)) (s .args .clearance) (grown (now (s .args .cells)) (now (s .args .corners)) (s .args .clearance) (s .pre .1 .0 .passed)) (s .args .axis) (s .args .upper) (s .args .key) (s .args .level) (s .args .n) (s .pre .1 .1 .1) (y .cell-entry .result) (y .cell-entry .ensures) (z .if1 .left) (b .side-bit .result) (b .side-bit .ensures .0)))))
 
--- src/lib.rt:309:102
 small-faces-moved-requires-2 : (t : ℕ) → small-faces-lts.Need-moved-requires-2 (
   cell-entry-reads.Asked,
   cell-entry-reads.Learnt,
@@ -533,7 +515,6 @@ small-faces-moved-requires-2 t c κs =
     let s = y .before .before .before .before .before .before .before .before .before in
     right-ready (s .args .axis) (s .args .upper) (s .args .key) _ (face-room (now (s .args .cells)) (now (s .args .corners)) (s .args .clearance) (s .pre .1 .0 .passed) (s .args .axis) (s .args .upper) (s .args .key) _ (faced (now (s .args .cells)) (now (s .args .corners)) (s .args .clearance) (grown (now (s .args .cells)) (now (s .args .corners)) (s .args .clearance) (s .pre .1 .0 .passed)) (s .args .axis) (s .args .upper) (s .args .key) _ _ (near-across (now (s .args .cells)) (now (s .args .corners)) (s .args .clearance) (grown (now (s .args .cells)) (now (s .args .corners)) (s .args .clearance) (s .pre .1 .0 .passed)) (s .args .axis) (s .args .upper) (s .args .key) (s .args .level) (s .args .n) (s .pre .1 .1 .1) (y .cell-entry .result) (y .cell-entry .ensures) (z .if1 .left) (b .side-bit .result) (b .side-bit .ensures .0)))) (r .right .result) (r .right .ensures .0)
 
--- src/lib.rt:309:5
 small-faces-small-faces-requires-2 : (t : ℕ) → small-faces-lts.Need-small-faces-requires-2 (
   cell-entry-reads.Asked,
   cell-entry-reads.Learnt,
@@ -566,7 +547,6 @@ small-faces-small-faces-requires-2 t c κs =
     let f = c .before .before .before .before .before .before .before .before .before .before in
     ((let l = above-zero (now (s .args .cells)) (now (s .args .corners)) (s .args .clearance) (grown (now (s .args .cells)) (now (s .args .corners)) (s .args .clearance) (s .pre .1 .0 .passed)) (s .args .axis) (s .args .upper) (s .args .key) (s .args .level) (s .args .n) (s .pre .1 .1 .1) (y .cell-entry .result) (y .cell-entry .ensures) (z .if1 .left) in omega arith), (s .pre .1 .0, (f .small-faces .ensures .sized, beside-across (now (s .args .cells)) (now (s .args .corners)) (s .args .clearance) (grown (now (s .args .cells)) (now (s .args .corners)) (s .args .clearance) (s .pre .1 .0 .passed)) (s .args .axis) (s .args .upper) (s .args .key) (s .args .level) (s .args .n) (s .pre .1 .1 .1) (y .cell-entry .result) (y .cell-entry .ensures) (z .if1 .left) (b .side-bit .result) (b .side-bit .ensures .0) (r .right .result) (o .octant-bit .result) (r .right .ensures .0) (o .octant-bit .ensures .0) (c .moved2 .result) (c .moved2 .ensures))))
 
--- src/lib.rt:310:115
 small-faces-add-small-faces : (t : ℕ) → small-faces-lts.Need-add-small-faces (
   cell-entry-reads.Asked,
   cell-entry-reads.Learnt,
@@ -598,7 +578,6 @@ small-faces-add-small-faces t c =
     let s = y .before .before .before .before .before .before .before .before .before in
     record { fits = omega (arith, children-inside (now (s .args .cells)) (now (s .args .corners)) (s .args .clearance) (grown (now (s .args .cells)) (now (s .args .corners)) (s .args .clearance) (s .pre .1 .0 .passed)) (s .args .axis) (s .args .upper) (s .args .key) (s .args .level) (s .args .n) (s .pre .1 .1 .1) (y .cell-entry .result) (y .cell-entry .ensures) (z .if1 .left), cells-small (now (s .args .cells)) (now (s .args .corners)) (s .args .clearance) (s .pre .1 .0 .passed), b .side-bit .ensures .1, o .octant-bit .ensures .1, h .octant-bit2 .ensures .1) }
 
--- src/lib.rt:310:5
 small-faces-small-faces-requires-3 : (t : ℕ) → small-faces-lts.Need-small-faces-requires-3 (
   cell-entry-reads.Asked,
   cell-entry-reads.Learnt,
@@ -632,7 +611,6 @@ small-faces-small-faces-requires-3 t c κs =
     let a = c .before .before .before .before .before .before .before .before .before .before .before .before .before .before .before .before .before .before .before .before .before .before .before .before in
     ((let l = above-zero (now (s .args .cells)) (now (s .args .corners)) (s .args .clearance) (grown (now (s .args .cells)) (now (s .args .corners)) (s .args .clearance) (s .pre .1 .0 .passed)) (s .args .axis) (s .args .upper) (s .args .key) (s .args .level) (s .args .n) (s .pre .1 .1 .1) (y .cell-entry .result) (y .cell-entry .ensures) (z .if1 .left) in omega arith), (s .pre .1 .0, (f .small-faces2 .ensures .sized, above-across (now (s .args .cells)) (now (s .args .corners)) (s .args .clearance) (grown (now (s .args .cells)) (now (s .args .corners)) (s .args .clearance) (s .pre .1 .0 .passed)) (s .args .axis) (s .args .upper) (s .args .key) (s .args .level) (s .args .n) (s .pre .1 .1 .1) (y .cell-entry .result) (y .cell-entry .ensures) (z .if1 .left) (b .side-bit .result) (b .side-bit .ensures .0) (r .right .result) (o .octant-bit .result) (r .right .ensures .0) (o .octant-bit .ensures .0) (u .up .result) (h .octant-bit2 .result) (u .up .ensures .0) (h .octant-bit2 .ensures .0) (a .moved .result) (a .moved .ensures))))
 
--- src/lib.rt:311:102
 small-faces-moved-requires-3 : (t : ℕ) → small-faces-lts.Need-moved-requires-3 (
   cell-entry-reads.Asked,
   cell-entry-reads.Learnt,
@@ -665,7 +643,6 @@ small-faces-moved-requires-3 t c κs =
     let a = c .before .before .before .before .before .before .before .before .before .before .before .before .before .before .before .before .before .before .before .before .before .before .before .before .before .before .before .before .before .before .before .before .before .before in
     far-ready (s .args .axis) (s .args .upper) (s .args .key) _ (face-room (now (s .args .cells)) (now (s .args .corners)) (s .args .clearance) (s .pre .1 .0 .passed) (s .args .axis) (s .args .upper) (s .args .key) _ (faced (now (s .args .cells)) (now (s .args .corners)) (s .args .clearance) (grown (now (s .args .cells)) (now (s .args .corners)) (s .args .clearance) (s .pre .1 .0 .passed)) (s .args .axis) (s .args .upper) (s .args .key) _ _ (near-across (now (s .args .cells)) (now (s .args .corners)) (s .args .clearance) (grown (now (s .args .cells)) (now (s .args .corners)) (s .args .clearance) (s .pre .1 .0 .passed)) (s .args .axis) (s .args .upper) (s .args .key) (s .args .level) (s .args .n) (s .pre .1 .1 .1) (y .cell-entry .result) (y .cell-entry .ensures) (z .if1 .left) (b .side-bit .result) (b .side-bit .ensures .0)))) (r .right .result) (u .up .result) (a .moved .result) (r .right .ensures .0) (u .up .ensures .0) (a .moved .ensures)
 
--- src/lib.rt:311:134
 small-faces-add-small-faces-2 : (t : ℕ) → small-faces-lts.Need-add-small-faces-2 (
   cell-entry-reads.Asked,
   cell-entry-reads.Learnt,
@@ -697,7 +674,6 @@ small-faces-add-small-faces-2 t c =
     let s = y .before .before .before .before .before .before .before .before .before in
     record { fits = omega (arith, children-inside (now (s .args .cells)) (now (s .args .corners)) (s .args .clearance) (grown (now (s .args .cells)) (now (s .args .corners)) (s .args .clearance) (s .pre .1 .0 .passed)) (s .args .axis) (s .args .upper) (s .args .key) (s .args .level) (s .args .n) (s .pre .1 .1 .1) (y .cell-entry .result) (y .cell-entry .ensures) (z .if1 .left), cells-small (now (s .args .cells)) (now (s .args .corners)) (s .args .clearance) (s .pre .1 .0 .passed), b .side-bit .ensures .1, o .octant-bit .ensures .1, h .octant-bit2 .ensures .1) }
 
--- src/lib.rt:311:5
 small-faces-small-faces-requires-4 : (t : ℕ) → small-faces-lts.Need-small-faces-requires-4 (
   cell-entry-reads.Asked,
   cell-entry-reads.Learnt,
@@ -731,7 +707,6 @@ small-faces-small-faces-requires-4 t c κs =
     let a = c .before .before .before .before .before .before .before .before .before .before .before .before .before .before .before .before .before .before .before .before .before .before .before .before .before .before .before .before .before .before .before .before .before .before .before in
     ((let l = above-zero (now (s .args .cells)) (now (s .args .corners)) (s .args .clearance) (grown (now (s .args .cells)) (now (s .args .corners)) (s .args .clearance) (s .pre .1 .0 .passed)) (s .args .axis) (s .args .upper) (s .args .key) (s .args .level) (s .args .n) (s .pre .1 .1 .1) (y .cell-entry .result) (y .cell-entry .ensures) (z .if1 .left) in omega arith), (s .pre .1 .0, (f .small-faces3 .ensures .sized, far-across (now (s .args .cells)) (now (s .args .corners)) (s .args .clearance) (grown (now (s .args .cells)) (now (s .args .corners)) (s .args .clearance) (s .pre .1 .0 .passed)) (s .args .axis) (s .args .upper) (s .args .key) (s .args .level) (s .args .n) (s .pre .1 .1 .1) (y .cell-entry .result) (y .cell-entry .ensures) (z .if1 .left) (b .side-bit .result) (b .side-bit .ensures .0) (r .right .result) (o .octant-bit .result) (r .right .ensures .0) (o .octant-bit .ensures .0) (u .up .result) (h .octant-bit2 .result) (u .up .ensures .0) (h .octant-bit2 .ensures .0) (a .moved .result) (c .moved3 .result) (a .moved .ensures) (c .moved3 .ensures))))
 
--- src/lib.rt:288:1
 small-faces-same-length-4 : (t : ℕ) → small-faces-lts.Need-same-length-4 (
   cell-entry-reads.Asked,
   cell-entry-reads.Learnt,
@@ -756,7 +731,6 @@ small-faces-same-length-4 t c =
     let f = c .before .before .before .before .before .before in
     f .small-faces4 .ensures .sized .points ∙ sym (f .before .before .before .before .before .before .before .before .before .before .before .before .before .before .before .before .before .before .before .before .before .before .before .before .before .before .before .before .before .before .before .before .before .before .before .before .before .before .before .before .before .before .before .before .before .before .before .before .before .before .before .before .pre .1 .1 .0 .points)
 
--- src/lib.rt:288:1
 small-faces-same-length-5 : (t : ℕ) → small-faces-lts.Need-same-length-5 (
   cell-entry-reads.Asked,
   cell-entry-reads.Learnt,
@@ -781,7 +755,6 @@ small-faces-same-length-5 t c =
     let f = c .before .before .before .before .before .before in
     f .small-faces4 .ensures .sized .same ∙ sym (f .before .before .before .before .before .before .before .before .before .before .before .before .before .before .before .before .before .before .before .before .before .before .before .before .before .before .before .before .before .before .before .before .before .before .before .before .before .before .before .before .before .before .before .before .before .before .before .before .before .before .before .before .pre .1 .1 .0 .same)
 
--- src/lib.rt:288:1
 small-faces-same-length-6 : (t : ℕ) → small-faces-lts.Need-same-length-6 (
   cell-entry-reads.Asked,
   cell-entry-reads.Learnt,
@@ -806,7 +779,6 @@ small-faces-same-length-6 t c =
     let f = c .before .before .before .before .before .before in
     f .small-faces4 .ensures .sized .groups ∙ sym (f .before .before .before .before .before .before .before .before .before .before .before .before .before .before .before .before .before .before .before .before .before .before .before .before .before .before .before .before .before .before .before .before .before .before .before .before .before .before .before .before .before .before .before .before .before .before .before .before .before .before .before .before .pre .1 .1 .0 .groups)
 
--- src/lib.rt:288:1
 small-faces-returns-2 : (t : ℕ) → small-faces-lts.Need-returns-2 (
   cell-entry-reads.Asked,
   cell-entry-reads.Learnt,

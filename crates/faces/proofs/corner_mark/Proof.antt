@@ -1,26 +1,19 @@
+-- `faces::corner_mark` meets its contract: the table has the mark of the corner that is found.
 use denote.Ref.{now}
 use Rattle.faces.proofs.Steps.{mark-read}
 use borrow.Author.Needs.{needs}
 use Rattle.faces.proofs.corner_mark.Statement.{statement}
 use Rattle.faces.proofs.corner_mark.Tie as tie
-use Rattle.faces.proofs.corner_mark.Reads as reads
-use Rattle.faces.proofs.corner_mark.Lts as lts
-use Rattle.faces.proofs.corner_record.Reads as corner-record-reads
-use Rattle.faces.proofs.wide.Reads as wide-reads
 
--- src/lib.rt:211:9
 corner-record-requires : tie.Need-corner-record-requires
 corner-record-requires c κs = search needs
 
--- src/lib.rt:212:10
 shared-slice-read-wide : tie.Need-shared-slice-read-wide
 shared-slice-read-wide c = search needs
 
--- src/lib.rt:212:5
 wide-requires : tie.Need-wide-requires
 wide-requires c κs = search needs
 
--- src/lib.rt:206:1
 returns : tie.Need-returns
 returns c =
     let s = c .before .before .before .before .before in

@@ -1,17 +1,13 @@
+-- `faces::corner_record` meets its contract: a listed place is found by its key.
 use denote.Ref.{now}
 use Rattle.faces.proofs.Looks.{corner-found}
 use borrow.Author.Needs.{needs}
 use Rattle.faces.proofs.corner_record.Statement.{statement}
 use Rattle.faces.proofs.corner_record.Tie as tie
-use Rattle.faces.proofs.corner_record.Reads as reads
-use Rattle.faces.proofs.corner_record.Lts as lts
-use Rattle.records.proofs.find.Reads as find-reads
 
--- src/lib.rt:195:5
 find-requires : tie.Need-find-requires
 find-requires c κs = search needs
 
--- src/lib.rt:190:1
 returns : tie.Need-returns
 returns c =
     let s = c .before .before in

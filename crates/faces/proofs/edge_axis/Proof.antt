@@ -1,29 +1,22 @@
+-- `faces::edge_axis` meets its contract: even edges run right, odd ones up.
 use mathlib.Core.Path.{_∙_}
 use Rattle.faces.specs.Faces.{sideAt}
 use Rattle.faces.proofs.Keys.{even-edge, odd-edge}
 use borrow.Author.Needs.{needs}
 use Rattle.faces.proofs.edge_axis.Statement.{statement}
 use Rattle.faces.proofs.edge_axis.Tie as tie
-use Rattle.faces.proofs.edge_axis.Reads as reads
-use Rattle.faces.proofs.edge_axis.Lts as lts
-use Rattle.faces.proofs.right.Reads as right-reads
-use Rattle.faces.proofs.up.Reads as up-reads
 
--- src/lib.rt:169:9
 right-requires : tie.Need-right-requires
 right-requires c κs = search needs
 
--- src/lib.rt:169:9
 returns : tie.Need-returns
 returns c =
     let s = c .before .before in
     ((λ f. c .right .ensures .0 ∙ even-edge (sideAt (s .args .axis) (s .args .upper)) (s .args .i) (s .pre .1) (c .before .if1 .taken) f), c .right .ensures .1)
 
--- src/lib.rt:171:5
 up-requires : tie.Need-up-requires
 up-requires c κs = search needs
 
--- src/lib.rt:164:1
 returns-2 : tie.Need-returns-2
 returns-2 c =
     let s = c .before .before in

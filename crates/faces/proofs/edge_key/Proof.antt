@@ -1,3 +1,4 @@
+-- `faces::edge_key` meets its contract: the lower end of each edge.
 use Rattle.faces.specs.Faces.{sideAt}
 use Rattle.faces.specs.Descent.{placeWith}
 use Rattle.faces.proofs.Keys.{right-low, up-low, same-low}
@@ -5,45 +6,33 @@ use Rattle.faces.proofs.Looks.{right-ready, up-ready}
 use borrow.Author.Needs.{needs}
 use Rattle.faces.proofs.edge_key.Statement.{statement}
 use Rattle.faces.proofs.edge_key.Tie as tie
-use Rattle.faces.proofs.edge_key.Reads as reads
-use Rattle.faces.proofs.edge_key.Lts as lts
-use Rattle.faces.proofs.moved.Reads as moved-reads
-use Rattle.faces.proofs.right.Reads as right-reads
-use Rattle.faces.proofs.up.Reads as up-reads
 
--- src/lib.rt:181:27
 right-requires : tie.Need-right-requires
 right-requires c κs = search needs
 
--- src/lib.rt:181:9
 moved-requires : tie.Need-moved-requires
 moved-requires c κs =
     let s = c .before .before in
     right-ready (s .args .axis) (s .args .upper) (s .args .key) (s .args .level) (s .pre .0) (c .right .result) (c .right .ensures .0)
 
--- src/lib.rt:181:9
 returns : tie.Need-returns
 returns c =
     let s = c .before .before .before in
     right-low (sideAt (s .args .axis) (s .args .upper)) (placeWith (s .args .key)) (s .args .level) (s .args .i) (c .before .right .result) _ (c .before .before .if1 .taken) (c .before .right .ensures .0) (c .moved .ensures)
 
--- src/lib.rt:184:27
 up-requires : tie.Need-up-requires
 up-requires c κs = search needs
 
--- src/lib.rt:184:9
 moved-requires-2 : tie.Need-moved-requires-2
 moved-requires-2 c κs =
     let s = c .before .before .before in
     up-ready (s .args .axis) (s .args .upper) (s .args .key) (s .args .level) (s .pre .0) (c .up .result) (c .up .ensures .0)
 
--- src/lib.rt:184:9
 returns-2 : tie.Need-returns-2
 returns-2 c =
     let s = c .before .before .before .before in
     up-low (sideAt (s .args .axis) (s .args .upper)) (placeWith (s .args .key)) (s .args .level) (s .args .i) (c .before .up .result) _ (c .before .before .if2 .taken) (c .before .up .ensures .0) (c .moved2 .ensures)
 
--- src/lib.rt:175:1
 returns-3 : tie.Need-returns-3
 returns-3 c =
     let s = c .before .before in

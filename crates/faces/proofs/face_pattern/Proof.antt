@@ -1,54 +1,38 @@
+-- `faces::face_pattern` meets its contract: the four corners are listed, and their marks make the pattern.
 use denote.Ref.{now}
 use mathlib.Core.Path.{refl}
-use Rattle.base.specs.Grid.{move}
-use Prim.Native.Nat.{_^_}
-use Rattle.faces.specs.Faces.{sideAt}
-use Rattle.faces.specs.Descent.{placeWith}
 use Rattle.faces.proofs.Looks.{right-ready, up-ready, far-ready, face-room, listed-at, mark-at, pattern-is, moved-by, far-corner}
 use borrow.Author.Needs.{needs}
 use Rattle.faces.proofs.face_pattern.Statement.{statement}
 use Rattle.faces.proofs.face_pattern.Tie as tie
-use Rattle.faces.proofs.face_pattern.Reads as reads
-use Rattle.faces.proofs.face_pattern.Lts as lts
-use Rattle.faces.proofs.corner_mark.Reads as corner-mark-reads
-use Rattle.faces.proofs.moved.Reads as moved-reads
-use Rattle.faces.proofs.right.Reads as right-reads
-use Rattle.faces.proofs.up.Reads as up-reads
 
--- src/lib.rt:214:9
 right-requires : tie.Need-right-requires
 right-requires c κs = search needs
 
--- src/lib.rt:215:9
 moved-requires : tie.Need-moved-requires
 moved-requires c κs =
     let s = c .before .before .before .before in
     right-ready (s .args .axis) (s .args .upper) (s .args .key) (s .args .level) (face-room (now (s .args .cells)) (now (s .args .corners)) (s .args .clearance) (s .pre .0) (s .args .axis) (s .args .upper) (s .args .key) (s .args .level) (s .pre .1 .1)) (c .right .result) (c .right .ensures .0)
 
--- src/lib.rt:216:27
 up-requires : tie.Need-up-requires
 up-requires c κs = search needs
 
--- src/lib.rt:216:9
 moved-requires-2 : tie.Need-moved-requires-2
 moved-requires-2 c κs =
     let s = c .before .before .before .before .before .before in
     up-ready (s .args .axis) (s .args .upper) (s .args .key) (s .args .level) (face-room (now (s .args .cells)) (now (s .args .corners)) (s .args .clearance) (s .pre .0) (s .args .axis) (s .args .upper) (s .args .key) (s .args .level) (s .pre .1 .1)) (c .up .result) (c .up .ensures .0)
 
--- src/lib.rt:217:9
 moved-requires-3 : tie.Need-moved-requires-3
 moved-requires-3 c κs =
     let s = c .before .before .before .before .before .before .before in
     let r = c .before .before .before in
     far-ready (s .args .axis) (s .args .upper) (s .args .key) (s .args .level) (face-room (now (s .args .cells)) (now (s .args .corners)) (s .args .clearance) (s .pre .0) (s .args .axis) (s .args .upper) (s .args .key) (s .args .level) (s .pre .1 .1)) (r .right .result) (c .before .up .result) (c .moved2 .result) (r .right .ensures .0) (c .before .up .ensures .0) (c .moved2 .ensures)
 
--- src/lib.rt:218:5
 corner-mark-requires : tie.Need-corner-mark-requires
 corner-mark-requires c κs =
     let s = c .before .before .before .before .before .before .before .before in
     (s .pre .1 .0, listed-at (now (s .args .cells)) (now (s .args .corners)) (s .args .clearance) (s .pre .0) (s .args .axis) (s .args .upper) (s .args .key) (s .args .level) (s .pre .1 .1) (s .args .key) 0 refl)
 
--- src/lib.rt:219:15
 corner-mark-requires-2 : tie.Need-corner-mark-requires-2
 corner-mark-requires-2 c κs =
     let s = c .before .before .before .before .before .before .before .before .before in
@@ -58,15 +42,12 @@ corner-mark-requires-2 c κs =
           (moved-by (now (s .args .cells)) (now (s .args .corners)) (s .args .clearance) (s .pre .0) (s .args .axis) (s .args .upper) (s .args .key) (s .args .level) (s .pre .1 .1) (m .before .right .result) _ _ _ _ (m .before .right .ensures .0) (m .moved .ensures)),
     )
 
--- src/lib.rt:219:11
 mul-result : tie.Need-mul-result
 mul-result c = search needs
 
--- src/lib.rt:218:5
 add-result : tie.Need-add-result
 add-result c = search needs
 
--- src/lib.rt:220:15
 corner-mark-requires-3 : tie.Need-corner-mark-requires-3
 corner-mark-requires-3 c κs =
     let s = c .before .before .before .before .before .before .before .before .before .before in
@@ -79,15 +60,12 @@ corner-mark-requires-3 c κs =
           (far-corner (now (s .args .cells)) (now (s .args .corners)) (s .args .clearance) (s .pre .0) (s .args .axis) (s .args .upper) (s .args .key) (s .args .level) (s .pre .1 .1) (r .right .result) (u .up .result) (o .moved2 .result) (f .moved3 .result) (r .right .ensures .0) (u .up .ensures .0) (o .moved2 .ensures) (f .moved3 .ensures)),
     )
 
--- src/lib.rt:220:11
 mul-result-2 : tie.Need-mul-result-2
 mul-result-2 c = search needs
 
--- src/lib.rt:218:5
 add-result-2 : tie.Need-add-result-2
 add-result-2 c = search needs
 
--- src/lib.rt:221:15
 corner-mark-requires-4 : tie.Need-corner-mark-requires-4
 corner-mark-requires-4 c κs =
     let s = c .before .before .before .before .before .before .before .before .before .before .before in
@@ -97,15 +75,12 @@ corner-mark-requires-4 c κs =
           (moved-by (now (s .args .cells)) (now (s .args .corners)) (s .args .clearance) (s .pre .0) (s .args .axis) (s .args .upper) (s .args .key) (s .args .level) (s .pre .1 .1) (o .before .up .result) _ _ _ _ (o .before .up .ensures .0) (o .moved2 .ensures)),
     )
 
--- src/lib.rt:221:11
 mul-result-3 : tie.Need-mul-result-3
 mul-result-3 c = search needs
 
--- src/lib.rt:218:5
 add-result-3 : tie.Need-add-result-3
 add-result-3 c = search needs
 
--- src/lib.rt:208:1
 returns : tie.Need-returns
 returns c =
     let s = c .before .before .before .before .before .before .before .before .before .before .before .before in

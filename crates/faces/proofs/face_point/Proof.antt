@@ -1,23 +1,16 @@
+-- `faces::face_point` meets its contract: the edge is odd, and its point is below 14,616.
 use denote.Ref.{now}
 use Rattle.faces.proofs.Looks.{face-room, corners-rise}
 use Rattle.faces.proofs.Steps.{low-listed, edge-ready, point-is}
 use borrow.Author.Needs.{needs}
 use Rattle.faces.proofs.face_point.Statement.{statement}
 use Rattle.faces.proofs.face_point.Tie as tie
-use Rattle.faces.proofs.face_point.Reads as reads
-use Rattle.faces.proofs.face_point.Lts as lts
-use Rattle.edges.proofs.point_of.Reads as point-of-reads
-use Rattle.faces.proofs.corner_record.Reads as corner-record-reads
-use Rattle.faces.proofs.edge_axis.Reads as edge-axis-reads
-use Rattle.faces.proofs.edge_key.Reads as edge-key-reads
 
--- src/lib.rt:240:36
 edge-key-requires : tie.Need-edge-key-requires
 edge-key-requires c κs =
     let s = c .before .before .before .before .before in
     (face-room (now (s .args .cells)) (now (s .args .corners)) (s .args .clearance) (s .pre .0 .passed) (s .args .axis) (s .args .upper) (s .args .key) (s .args .level) (s .pre .1 .0), s .pre .1 .1 .0)
 
--- src/lib.rt:240:9
 corner-record-requires : tie.Need-corner-record-requires
 corner-record-requires c κs =
     let s = c .before .before .before .before .before .before in (
@@ -25,11 +18,9 @@ corner-record-requires c κs =
       low-listed (now (s .args .cells)) (now (s .args .corners)) (s .args .clearance) (s .pre .0 .passed) (s .args .axis) (s .args .upper) (s .args .key) (s .args .level) (s .pre .1 .0) (c .edge-key .result) (s .args .i) (c .edge-key .ensures),
     )
 
--- src/lib.rt:241:71
 edge-axis-requires : tie.Need-edge-axis-requires
 edge-axis-requires c κs = search needs
 
--- src/lib.rt:241:5
 point-of-requires : tie.Need-point-of-requires
 point-of-requires c κs =
     let s = c .before .before .before .before .before .before .before .before in
@@ -51,7 +42,6 @@ point-of-requires c κs =
       ),
     )
 
--- src/lib.rt:234:1
 returns : tie.Need-returns
 returns c =
     let s = c .before .before .before .before .before .before .before .before .before in

@@ -1,32 +1,22 @@
+-- `faces::face_step` meets its contract: the table of sixteen gives the step of the row.
 use denote.Ref.{now}
 use mathlib.Core.Path.{_∙_}
-use native.Mathlib.Omega.{arith}
 use Rattle.faces.proofs.Steps.{step-ready, row-none, row-one}
 use borrow.Author.Needs.{needs}
 use Rattle.faces.proofs.face_step.Statement.{statement}
 use Rattle.faces.proofs.face_step.Tie as tie
-use Rattle.faces.proofs.face_step.Reads as reads
-use Rattle.faces.proofs.face_step.Lts as lts
-use Rattle.faces.proofs.face_point.Reads as face-point-reads
-use Rattle.faces.proofs.step_from.Reads as step-from-reads
-use Rattle.faces.proofs.wide.Reads as wide-reads
-use Rattle.trace.proofs.record_step.Reads as record-step-reads
 
--- src/lib.rt:253:18
 step-from-requires : tie.Need-step-from-requires
 step-from-requires c κs = search needs
 
--- src/lib.rt:253:9
 wide-requires : tie.Need-wide-requires
 wide-requires c κs = search needs
 
--- src/lib.rt:255:9
 returns : tie.Need-returns
 returns c =
     let s = c .before .before .before .before .before .before .before .before .before .before .before in
     row-none (now (s .args .cells)) (now (s .args .corners)) (s .args .clearance) (s .pre .0 .passed) (s .args .axis) (s .args .upper) (s .args .key) (s .args .level) (s .pre .1 .1 .0) (s .args .pattern) (s .args .i) (c .before .wide .result) _ (c .before .wide .ensures ∙ c .before .before .step-from .ensures) (c .if1 .taken) (s .pre .1 .0)
 
--- src/lib.rt:257:9
 face-point-requires : tie.Need-face-point-requires
 face-point-requires c κs =
     let s = c .before .before .before .before .before .before .before .before .before .before .before in
@@ -41,7 +31,6 @@ face-point-requires c κs =
       ),
     )
 
--- src/lib.rt:258:9
 face-point-requires-2 : tie.Need-face-point-requires-2
 face-point-requires-2 c κs =
     let s = c .before .before .before .before .before .before .before .before .before .before .before .before in
@@ -56,23 +45,18 @@ face-point-requires-2 c κs =
       ),
     )
 
--- src/lib.rt:259:5
 record-step-requires : tie.Need-record-step-requires
 record-step-requires c κs = search needs
 
--- src/lib.rt:245:1
 same-length : tie.Need-same-length
 same-length c = search needs
 
--- src/lib.rt:245:1
 same-length-2 : tie.Need-same-length-2
 same-length-2 c = search needs
 
--- src/lib.rt:245:1
 same-length-3 : tie.Need-same-length-3
 same-length-3 c = search needs
 
--- src/lib.rt:245:1
 returns-2 : tie.Need-returns-2
 returns-2 c =
     let r = c .before .before .before .before .before .before in

@@ -1,3 +1,4 @@
+-- `faces::go_down` meets its contract: before each turn the record's cell holds the place; a turn goes to the child that holds it.
 use Rattle.cells.proofs.Octants.{size-fits}
 use Prim.Native.Nat.{_≤_, _-_}
 use mathlib.Core.Path.{_≡_}
@@ -8,11 +9,6 @@ use Rattle.faces.proofs.Descent.{Descended, at-box, stops, turns, arriv
 use borrow.Author.Needs.{needs}
 use Rattle.faces.proofs.go_down.Statement.{statement}
 use Rattle.faces.proofs.go_down.Tie as tie
-use Rattle.faces.proofs.go_down.Reads as reads
-use Rattle.faces.proofs.go_down.Lts as lts
-use Rattle.faces.proofs.half.Reads as half-reads
-use Rattle.faces.proofs.left.Reads as left-reads
-use Rattle.records.proofs.cell_entry.Reads as cell-entry-reads
 
 abbrev Inv-loop : tie.InvT-loop
 Inv-loop cells level key x₀ y₀ z₀ n₀ at₀ size₀ x y z n at size = (level ≤ at) × Descended cells (placeWith key) n at size x y z
@@ -20,78 +16,60 @@ Inv-loop cells level key x₀ y₀ z₀ n₀ at₀ size₀ x y z n at size = (le
 abbrev μ-loop : tie.MeasureT-loop
 μ-loop cells level key x₀ y₀ z₀ n₀ at₀ size₀ x y z n at size = at - level
 
--- src/lib.rt:69:5
 loop-holds : tie.Need-loop-holds Inv-loop μ-loop
 unfolding placeWith
 loop-holds c = (omega (arith, c .before .pre .1), at-box (now (c .before .args .cells)) (c .before .pre .0) (placeWith (c .before .args .key)) (c .before .pre .1 .1))
 
--- src/lib.rt:70:17
 cell-entry-requires : tie.Need-cell-entry-requires Inv-loop μ-loop
 cell-entry-requires c κs = search needs
 
--- src/lib.rt:70:17
 cast-e : tie.Need-cast-e Inv-loop μ-loop
 cast-e c = search needs
 
--- src/lib.rt:72:13
 returns : tie.Need-returns Inv-loop μ-loop
 returns c =
     let d = c .before .before .before .loop .inv .1 in
     stops _ (c .before .before .before .before .before .pre .0) _ _ _ _ _ _ _ d _ _ (c .before .cell-entry .ensures) (c .if1 .taken) (c .before .before .loop-test .taken)
 
--- src/lib.rt:75:17
 half-requires : tie.Need-half-requires Inv-loop μ-loop
 half-requires c κs = search needs
 
--- src/lib.rt:75:13
 add-n : tie.Need-add-n Inv-loop μ-loop
 add-n c = search needs
 
--- src/lib.rt:75:37
 half-requires-2 : tie.Need-half-requires-2 Inv-loop μ-loop
 half-requires-2 c κs = search needs
 
--- src/lib.rt:75:33
 mul-n : tie.Need-mul-n Inv-loop μ-loop
 mul-n c = search needs
 
--- src/lib.rt:75:13
 add-n-2 : tie.Need-add-n-2 Inv-loop μ-loop
 add-n-2 c = search needs
 
--- src/lib.rt:75:57
 half-requires-3 : tie.Need-half-requires-3 Inv-loop μ-loop
 half-requires-3 c κs = search needs
 
--- src/lib.rt:75:53
 mul-n-2 : tie.Need-mul-n-2 Inv-loop μ-loop
 mul-n-2 c = search needs
 
--- src/lib.rt:75:13
 add-n-3 : tie.Need-add-n-3 Inv-loop μ-loop
 add-n-3 c = search needs
 
--- src/lib.rt:76:9
 left-requires : tie.Need-left-requires Inv-loop μ-loop
 left-requires c κs = search needs
 
--- src/lib.rt:77:9
 left-requires-2 : tie.Need-left-requires-2 Inv-loop μ-loop
 left-requires-2 c κs = search needs
 
--- src/lib.rt:78:9
 left-requires-3 : tie.Need-left-requires-3 Inv-loop μ-loop
 left-requires-3 c κs = search needs
 
--- src/lib.rt:79:9
 sub-at : tie.Need-sub-at Inv-loop μ-loop
 sub-at c = search needs
 
--- src/lib.rt:69:5
 loop-less : tie.Need-loop-less Inv-loop μ-loop
 loop-less c = search needs
 
--- src/lib.rt:69:5
 loop-again : tie.Need-loop-again Inv-loop μ-loop
 loop-again c =
     let a = c .before .before .before in
@@ -104,26 +82,22 @@ loop-again c =
           (c .before .before .left .ensures) (c .before .left2 .ensures) (c .left3 .ensures),
     )
 
--- src/lib.rt:81:8
 add-if2 : tie.Need-add-if2 Inv-loop μ-loop
 add-if2 c =
     let d = c .before .loop .inv .1 in
     record { fits = omega (arith, size-fits (c .before .loop .at) (d .top)) }
 
--- src/lib.rt:81:8
 add-if2-2 : tie.Need-add-if2-2 Inv-loop μ-loop
 add-if2-2 c =
     let d = c .before .loop .inv .1 in
     record { fits = omega (arith, size-fits (c .before .loop .at) (d .top)) }
 
--- src/lib.rt:82:9
 returns-2 : tie.Need-returns-2 Inv-loop μ-loop
 returns-2 c =
     let d = c .before .before .loop .inv .1 in
     let e : c .before .before .loop .at ≡ c .before .before .before .before .args .level = omega arith in
     rw (← e) (misses _ (c .before .before .before .before .pre .0) _ _ _ _ _ _ _ d (search needs))
 
--- src/lib.rt:58:1
 returns-3 : tie.Need-returns-3 Inv-loop μ-loop
 returns-3 c =
     let d = c .before .before .loop .inv .1 in

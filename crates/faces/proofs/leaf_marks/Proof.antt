@@ -1,78 +1,59 @@
+-- `faces::leaf_marks` meets its contract: eight marks, in the order of corners.
 use Rattle.rules.specs.Survey.{wet}
 use Rattle.base.specs.Lists.{bit}
 use Rattle.faces.proofs.Leaves.{eight-marks}
 use borrow.Author.Needs.{needs}
 use Rattle.faces.proofs.leaf_marks.Statement.{statement}
 use Rattle.faces.proofs.leaf_marks.Tie as tie
-use Rattle.faces.proofs.leaf_marks.Reads as reads
-use Rattle.faces.proofs.leaf_marks.Lts as lts
-use Rattle.faces.proofs.mark.Reads as mark-reads
 
--- src/lib.rt:439:14
 element-copy-out-mark : tie.Need-element-copy-out-mark
 element-copy-out-mark c = search needs
 
--- src/lib.rt:439:9
 mark-requires : tie.Need-mark-requires
 mark-requires c κs = search needs
 
--- src/lib.rt:440:14
 element-copy-out-mark-2 : tie.Need-element-copy-out-mark-2
 element-copy-out-mark-2 c = search needs
 
--- src/lib.rt:440:9
 mark-requires-2 : tie.Need-mark-requires-2
 mark-requires-2 c κs = search needs
 
--- src/lib.rt:441:14
 element-copy-out-mark-3 : tie.Need-element-copy-out-mark-3
 element-copy-out-mark-3 c = search needs
 
--- src/lib.rt:441:9
 mark-requires-3 : tie.Need-mark-requires-3
 mark-requires-3 c κs = search needs
 
--- src/lib.rt:442:14
 element-copy-out-mark-4 : tie.Need-element-copy-out-mark-4
 element-copy-out-mark-4 c = search needs
 
--- src/lib.rt:442:9
 mark-requires-4 : tie.Need-mark-requires-4
 mark-requires-4 c κs = search needs
 
--- src/lib.rt:443:14
 element-copy-out-mark-5 : tie.Need-element-copy-out-mark-5
 element-copy-out-mark-5 c = search needs
 
--- src/lib.rt:443:9
 mark-requires-5 : tie.Need-mark-requires-5
 mark-requires-5 c κs = search needs
 
--- src/lib.rt:444:14
 element-copy-out-mark-6 : tie.Need-element-copy-out-mark-6
 element-copy-out-mark-6 c = search needs
 
--- src/lib.rt:444:9
 mark-requires-6 : tie.Need-mark-requires-6
 mark-requires-6 c κs = search needs
 
--- src/lib.rt:445:14
 element-copy-out-mark-7 : tie.Need-element-copy-out-mark-7
 element-copy-out-mark-7 c = search needs
 
--- src/lib.rt:445:9
 mark-requires-7 : tie.Need-mark-requires-7
 mark-requires-7 c κs = search needs
 
--- src/lib.rt:446:14
 element-copy-out-mark-8 : tie.Need-element-copy-out-mark-8
 element-copy-out-mark-8 c = search needs
 
--- src/lib.rt:446:9
 mark-requires-8 : tie.Need-mark-requires-8
 mark-requires-8 c κs = search needs
 
--- src/lib.rt:434:1
 returns : tie.Need-returns
 returns c =
     let s = c .before .before .before .before .before .before .before .before .before .before .before .before .before .before .before .before in

@@ -1,3 +1,4 @@
+-- `faces::leaf_steps` meets its contract: six sides in the order of `sides`.
 use denote.Ref.{now}
 use mathlib.Core.Path.{_∙_, sym}
 use native.Mathlib.Omega.{arith}
@@ -8,37 +9,26 @@ use Rattle.faces.proofs.Leaves.{place-is, leaf-is, leaf-corners, marks-
 use borrow.Author.Needs.{needs}
 use Rattle.faces.proofs.leaf_steps.Statement.{statement}
 use Rattle.faces.proofs.leaf_steps.Tie as tie
-use Rattle.faces.proofs.leaf_steps.Reads as reads
-use Rattle.faces.proofs.leaf_steps.Lts as lts
-use Rattle.faces.proofs.leaf_at.Reads as leaf-at-reads
-use Rattle.faces.proofs.leaf_marks.Reads as leaf-marks-reads
-use Rattle.faces.proofs.side_steps.Reads as side-steps-reads
 
--- src/lib.rt:476:15
 mul-key : tie.Need-mul-key
 mul-key c = search needs
 
--- src/lib.rt:476:15
 shared-slice-read-key : tie.Need-shared-slice-read-key
 shared-slice-read-key c = search needs
 
--- src/lib.rt:477:17
 shared-slice-read-level : tie.Need-shared-slice-read-level
 shared-slice-read-level c = search needs
 
--- src/lib.rt:478:26
 leaf-at-requires : tie.Need-leaf-at-requires
 leaf-at-requires c κs =
     let s = c .before .before .before .before .before .before .before .before .before .before .before .before in
     (s .pre .0 .passed, leaf-is (now (s .args .cells)) (now (s .args .keys)) (now (s .args .levels)) (grown (now (s .args .cells)) (now (s .args .corners)) (s .args .clearance) (s .pre .0 .passed)) (s .pre .1 .1 .0) (s .args .n) (s .pre .1 .1 .1 .0))
 
--- src/lib.rt:478:9
 leaf-marks-requires : tie.Need-leaf-marks-requires
 leaf-marks-requires c κs =
     let s = c .before .before .before .before .before .before .before .before .before .before .before .before .before in
     leaf-corners (now (s .args .corners)) _ _ (c .leaf-at .result) (c .leaf-at .ensures)
 
--- src/lib.rt:479:5
 side-steps-requires : tie.Need-side-steps-requires
 side-steps-requires c κs =
     let m = c .before .before .before in
@@ -54,7 +44,6 @@ side-steps-requires c κs =
       ),
     )
 
--- src/lib.rt:480:5
 side-steps-requires-2 : tie.Need-side-steps-requires-2
 side-steps-requires-2 c κs =
     let m = c .before .before .before .before .before .before .before .before .before .before .before .before .before in
@@ -70,7 +59,6 @@ side-steps-requires-2 c κs =
       ),
     )
 
--- src/lib.rt:481:5
 side-steps-requires-3 : tie.Need-side-steps-requires-3
 side-steps-requires-3 c κs =
     let m = c .before .before .before .before .before .before .before .before .before .before .before .before .before .before .before .before .before .before .before .before .before .before .before in
@@ -86,7 +74,6 @@ side-steps-requires-3 c κs =
       ),
     )
 
--- src/lib.rt:482:5
 side-steps-requires-4 : tie.Need-side-steps-requires-4
 side-steps-requires-4 c κs =
     let m = c .before .before .before .before .before .before .before .before .before .before .before .before .before .before .before .before .before .before .before .before .before .before .before .before .before .before .before .before .before .before .before .before .before in
@@ -102,7 +89,6 @@ side-steps-requires-4 c κs =
       ),
     )
 
--- src/lib.rt:483:5
 side-steps-requires-5 : tie.Need-side-steps-requires-5
 side-steps-requires-5 c κs =
     let m = c .before .before .before .before .before .before .before .before .before .before .before .before .before .before .before .before .before .before .before .before .before .before .before .before .before .before .before .before .before .before .before .before .before .before .before .before .before .before .before .before .before .before .before in
@@ -118,7 +104,6 @@ side-steps-requires-5 c κs =
       ),
     )
 
--- src/lib.rt:484:5
 side-steps-requires-6 : tie.Need-side-steps-requires-6
 side-steps-requires-6 c κs =
     let m = c .before .before .before .before .before .before .before .before .before .before .before .before .before .before .before .before .before .before .before .before .before .before .before .before .before .before .before .before .before .before .before .before .before .before .before .before .before .before .before .before .before .before .before .before .before .before .before .before .before .before .before .before .before in
@@ -134,25 +119,21 @@ side-steps-requires-6 c κs =
       ),
     )
 
--- src/lib.rt:468:1
 same-length : tie.Need-same-length
 same-length c =
     let f = c .before .before .before .before .before .before in
     f .side-steps6 .ensures .sized .points ∙ sym (f .before .before .before .before .before .before .before .before .before .before .before .before .before .before .before .before .before .before .before .before .before .before .before .before .before .before .before .before .before .before .before .before .before .before .before .before .before .before .before .before .before .before .before .before .before .before .before .before .before .before .before .before .before .before .before .before .before .before .before .before .before .before .before .before .before .before .before .before .pre .1 .0 .points)
 
--- src/lib.rt:468:1
 same-length-2 : tie.Need-same-length-2
 same-length-2 c =
     let f = c .before .before .before .before .before .before in
     f .side-steps6 .ensures .sized .same ∙ sym (f .before .before .before .before .before .before .before .before .before .before .before .before .before .before .before .before .before .before .before .before .before .before .before .before .before .before .before .before .before .before .before .before .before .before .before .before .before .before .before .before .before .before .before .before .before .before .before .before .before .before .before .before .before .before .before .before .before .before .before .before .before .before .before .before .before .before .before .before .pre .1 .0 .same)
 
--- src/lib.rt:468:1
 same-length-3 : tie.Need-same-length-3
 same-length-3 c =
     let f = c .before .before .before .before .before .before in
     f .side-steps6 .ensures .sized .groups ∙ sym (f .before .before .before .before .before .before .before .before .before .before .before .before .before .before .before .before .before .before .before .before .before .before .before .before .before .before .before .before .before .before .before .before .before .before .before .before .before .before .before .before .before .before .before .before .before .before .before .before .before .before .before .before .before .before .before .before .before .before .before .before .before .before .before .before .before .before .before .before .pre .1 .0 .groups)
 
--- src/lib.rt:468:1
 returns : tie.Need-returns
 returns c =
     let s = c .before .before .before .before .before .before .before .before .before .before .before .before .before .before .before .before .before .before .before .before .before .before .before .before .before .before .before .before .before .before .before .before .before .before .before .before .before .before .before .before .before .before .before .before .before .before .before .before .before .before .before .before .before .before .before .before .before .before .before .before .before .before .before .before .before .before .before .before .before .before .before .before .before .before in

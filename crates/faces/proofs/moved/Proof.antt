@@ -1,32 +1,23 @@
+-- `faces::moved` meets its contract: the key of a moved place.
 use Rattle.faces.proofs.Keys.{moved-less, moved-key}
 use borrow.Author.Needs.{needs}
 use Rattle.faces.proofs.moved.Statement.{statement}
 use Rattle.faces.proofs.moved.Tie as tie
-use Rattle.faces.proofs.moved.Reads as reads
-use Rattle.faces.proofs.moved.Lts as lts
-use Rattle.cells.proofs.octant_key.Reads as octant-key-reads
-use Rattle.cells.proofs.size_of.Reads as size-of-reads
-use Rattle.faces.proofs.octant_bit.Reads as octant-bit-reads
 
--- src/lib.rt:160:29
 octant-bit-requires : tie.Need-octant-bit-requires
 octant-bit-requires c κs = search needs
 
--- src/lib.rt:160:47
 size-of-requires : tie.Need-size-of-requires
 size-of-requires c κs = search needs
 
--- src/lib.rt:160:11
 octant-key-requires : tie.Need-octant-key-requires
 octant-key-requires c κs = search needs
 
--- src/lib.rt:160:5
 add-result : tie.Need-add-result
 add-result c =
     let s = c .before .before .before in
     record { fits = moved-less (s .args .key) (s .args .level) _ _ _ (s .pre .0) (c .before .before .octant-bit .ensures .1) (c .before .size-of .ensures) (c .octant-key .ensures) }
 
--- src/lib.rt:155:1
 returns : tie.Need-returns
 returns c =
     let s = c .before .before .before in

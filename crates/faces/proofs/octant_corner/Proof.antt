@@ -1,34 +1,25 @@
+-- `faces::octant_corner` meets its contract: the corner that is read is the one that the rules take.
 use denote.Ref.{now}
-use Rattle.faces.proofs.Leaves.{octant-place, octant-listed, octant-is, octant-fits, key-ready}
+use Rattle.faces.proofs.Leaves.{octant-place, octant-listed, octant-is, octant-fits}
 use native.Mathlib.Omega.{arith}
 use Rattle.cells.proofs.Octants.{size-fits}
 use borrow.Author.Needs.{needs}
 use Rattle.faces.proofs.octant_corner.Statement.{statement}
 use Rattle.faces.proofs.octant_corner.Tie as tie
-use Rattle.faces.proofs.octant_corner.Reads as reads
-use Rattle.faces.proofs.octant_corner.Lts as lts
-use Rattle.cells.proofs.octant_key.Reads as octant-key-reads
-use Rattle.cells.proofs.size_of.Reads as size-of-reads
-use Rattle.faces.proofs.corner_record.Reads as corner-record-reads
-use Rattle.records.proofs.corner_at.Reads as corner-at-reads
 
--- src/lib.rt:399:63
 size-of-requires : tie.Need-size-of-requires
 size-of-requires c κs = search needs
 
--- src/lib.rt:399:42
 octant-key-requires : tie.Need-octant-key-requires
 octant-key-requires c κs =
     let s = c .before .before in
     (s .pre .1 .0 .0, omega (arith, size-fits (s .args .level) (s .pre .1 .0 .1), c .size-of .ensures))
 
--- src/lib.rt:399:36
 add-corner-record : tie.Need-add-corner-record
 add-corner-record c =
     let s = c .before .before .before in
     record { fits = octant-fits (s .args .key) (s .args .level) (s .args .i) _ _ (s .pre .1 .0 .0) (s .pre .1 .0 .1, s .pre .1 .0 .2) (c .before .size-of .ensures) (c .octant-key .ensures) }
 
--- src/lib.rt:399:9
 corner-record-requires : tie.Need-corner-record-requires
 corner-record-requires c κs =
     let s = c .before .before .before in (
@@ -37,11 +28,9 @@ corner-record-requires c κs =
           (octant-place (s .args .key) (s .args .level) (s .pre .1 .0 .2) (s .args .i) (s .pre .1 .0 .0) _ _ (c .before .size-of .ensures) (c .octant-key .ensures)),
     )
 
--- src/lib.rt:400:5
 corner-at-requires : tie.Need-corner-at-requires
 corner-at-requires c κs = search needs
 
--- src/lib.rt:393:1
 returns : tie.Need-returns
 returns c =
     let s = c .before .before .before .before .before in

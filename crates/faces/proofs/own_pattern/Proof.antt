@@ -1,45 +1,31 @@
+-- `faces::own_pattern` meets its contract: the four corners of the side are among the eight.
 use native.Mathlib.Omega.{arith}
 use Rattle.faces.proofs.Leaves.{own-octants, own-sum}
 use borrow.Author.Needs.{needs}
 use Rattle.faces.proofs.own_pattern.Statement.{statement}
 use Rattle.faces.proofs.own_pattern.Tie as tie
-use Rattle.faces.proofs.own_pattern.Reads as reads
-use Rattle.faces.proofs.own_pattern.Lts as lts
-use Rattle.faces.proofs.octant_bit.Reads as octant-bit-reads
-use Rattle.faces.proofs.right.Reads as right-reads
-use Rattle.faces.proofs.side_bit.Reads as side-bit-reads
-use Rattle.faces.proofs.up.Reads as up-reads
-use Rattle.faces.proofs.wet_bit.Reads as wet-bit-reads
 
--- src/lib.rt:397:9
 side-bit-requires : tie.Need-side-bit-requires
 side-bit-requires c κs = search needs
 
--- src/lib.rt:398:35
 right-requires : tie.Need-right-requires
 right-requires c κs = search needs
 
--- src/lib.rt:398:24
 octant-bit-requires : tie.Need-octant-bit-requires
 octant-bit-requires c κs = search needs
 
--- src/lib.rt:398:18
 add-beside : tie.Need-add-beside
 add-beside c = search needs
 
--- src/lib.rt:399:27
 up-requires : tie.Need-up-requires
 up-requires c κs = search needs
 
--- src/lib.rt:399:9
 octant-bit-requires-2 : tie.Need-octant-bit-requires-2
 octant-bit-requires-2 c κs = search needs
 
--- src/lib.rt:400:5
 wet-bit-requires : tie.Need-wet-bit-requires
 wet-bit-requires c κs = search needs
 
--- src/lib.rt:400:29
 wet-bit-requires-2 : tie.Need-wet-bit-requires-2
 wet-bit-requires-2 c κs =
     let h = c .before in
@@ -50,19 +36,15 @@ wet-bit-requires-2 c κs =
     let s = b .before in
     omega (arith, own-octants (s .args .axis) (s .args .upper) (b .side-bit .result) (r .right .result) (o .octant-bit .result) (u .up .result) (h .octant-bit2 .result) (b .side-bit .ensures .0) (r .right .ensures .0) (o .octant-bit .ensures .0) (u .up .ensures .0) (h .octant-bit2 .ensures .0))
 
--- src/lib.rt:400:25
 mul-result : tie.Need-mul-result
 mul-result c = search needs
 
--- src/lib.rt:400:5
 add-result : tie.Need-add-result
 add-result c = search needs
 
--- src/lib.rt:400:69
 add-wet-bit : tie.Need-add-wet-bit
 add-wet-bit c = search needs
 
--- src/lib.rt:400:56
 wet-bit-requires-3 : tie.Need-wet-bit-requires-3
 wet-bit-requires-3 c κs =
     let h = c .before .before in
@@ -73,19 +55,15 @@ wet-bit-requires-3 c κs =
     let s = b .before in
     omega (arith, own-octants (s .args .axis) (s .args .upper) (b .side-bit .result) (r .right .result) (o .octant-bit .result) (u .up .result) (h .octant-bit2 .result) (b .side-bit .ensures .0) (r .right .ensures .0) (o .octant-bit .ensures .0) (u .up .ensures .0) (h .octant-bit2 .ensures .0))
 
--- src/lib.rt:400:52
 mul-result-2 : tie.Need-mul-result-2
 mul-result-2 c = search needs
 
--- src/lib.rt:400:5
 add-result-2 : tie.Need-add-result-2
 add-result-2 c = search needs
 
--- src/lib.rt:400:103
 add-wet-bit-2 : tie.Need-add-wet-bit-2
 add-wet-bit-2 c = search needs
 
--- src/lib.rt:400:90
 wet-bit-requires-4 : tie.Need-wet-bit-requires-4
 wet-bit-requires-4 c κs =
     let h = c .before .before .before in
@@ -96,15 +74,12 @@ wet-bit-requires-4 c κs =
     let s = b .before in
     omega (arith, own-octants (s .args .axis) (s .args .upper) (b .side-bit .result) (r .right .result) (o .octant-bit .result) (u .up .result) (h .octant-bit2 .result) (b .side-bit .ensures .0) (r .right .ensures .0) (o .octant-bit .ensures .0) (u .up .ensures .0) (h .octant-bit2 .ensures .0))
 
--- src/lib.rt:400:86
 mul-result-3 : tie.Need-mul-result-3
 mul-result-3 c = search needs
 
--- src/lib.rt:400:5
 add-result-3 : tie.Need-add-result-3
 add-result-3 c = search needs
 
--- src/lib.rt:393:1
 returns : tie.Need-returns
 returns c =
     let h = c .before .before .before .before in

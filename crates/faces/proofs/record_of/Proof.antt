@@ -1,32 +1,25 @@
+-- `faces::record_of` meets its contract: outside the box there is no cell; inside, going down finds it.
 use Rattle.faces.specs.Descent.{placeWith}
 use Rattle.faces.proofs.Descent.{outside}
 use denote.Ref.{now}
 use borrow.Author.Needs.{needs}
 use Rattle.faces.proofs.record_of.Statement.{statement}
 use Rattle.faces.proofs.record_of.Tie as tie
-use Rattle.faces.proofs.record_of.Reads as reads
-use Rattle.faces.proofs.record_of.Lts as lts
-use Rattle.faces.proofs.go_down.Reads as go-down-reads
-use Rattle.faces.proofs.is_outside.Reads as is-outside-reads
 
--- src/lib.rt:116:8
 is-outside-requires : tie.Need-is-outside-requires
 is-outside-requires c κs = search needs
 
--- src/lib.rt:117:9
 returns : tie.Need-returns
 returns c =
     let s = c .before .before .before in
     let o = c .before .is-outside .ensures .out (c .if1 .taken) in
     outside (now (s .args .cells)) (s .pre .0) (s .args .level) (placeWith (s .args .key)) (o .0) (o .1)
 
--- src/lib.rt:119:5
 go-down-requires : tie.Need-go-down-requires
 go-down-requires c κs =
     let s = c .before .before .before in
     (s .pre .0, (s .pre .1, c .before .is-outside .ensures .in-box (c .if1 .left)))
 
--- src/lib.rt:111:1
 returns-2 : tie.Need-returns-2
 returns-2 c = search needs
 

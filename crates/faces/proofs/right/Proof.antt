@@ -1,23 +1,18 @@
+-- `faces::right` meets its contract: by cases on the side.
 use Rattle.faces.proofs.Keys.{right-if-upper, right-if-lower}
 use borrow.Author.Needs.{needs}
 use Rattle.faces.proofs.right.Statement.{statement}
 use Rattle.faces.proofs.right.Tie as tie
-use Rattle.faces.proofs.right.Reads as reads
-use Rattle.faces.proofs.right.Lts as lts
 
--- src/lib.rt:141:17
 add-result : tie.Need-add-result
 add-result c = search needs
 
--- src/lib.rt:141:9
 returns : tie.Need-returns
 returns c = right-if-upper (c .before .args .axis) (c .before .args .upper) (c .if1 .taken) (c .before .pre)
 
--- src/lib.rt:143:6
 add-result-2 : tie.Need-add-result-2
 add-result-2 c = search needs
 
--- src/lib.rt:136:1
 returns-2 : tie.Need-returns-2
 returns-2 c = right-if-lower (c .before .args .axis) (c .before .args .upper) (c .if1 .left) (c .before .pre)
 

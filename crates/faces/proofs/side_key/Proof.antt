@@ -1,25 +1,20 @@
+-- `faces::side_key` meets its contract: the lowest corner of the side.
 use Rattle.faces.specs.Descent.{placeWith}
 use Rattle.faces.proofs.Leaves.{moved-ready}
 use Rattle.faces.proofs.Own.{low-of-upper, low-of-lower}
 use Rattle.faces.proofs.side_key.Statement.{statement}
 use Rattle.faces.proofs.side_key.Tie as tie
-use Rattle.faces.proofs.side_key.Reads as reads
-use Rattle.faces.proofs.side_key.Lts as lts
-use Rattle.faces.proofs.moved.Reads as moved-reads
 
--- src/lib.rt:356:9
 moved-requires : tie.Need-moved-requires
 moved-requires c κs =
     let s = c .before in
     moved-ready (s .args .axis) (s .args .key) (s .args .level) (s .pre .0) (s .pre .1)
 
--- src/lib.rt:356:9
 returns : tie.Need-returns
 returns c =
     let s = c .before .before in
     low-of-upper (s .args .axis) (s .args .upper) (s .args .level) (placeWith (s .args .key)) _ (c .before .if1 .taken) (c .moved .ensures)
 
--- src/lib.rt:351:1
 returns-2 : tie.Need-returns-2
 returns-2 c =
     let s = c .before in

@@ -1,64 +1,49 @@
+-- `faces::side_steps` meets its contract: the split cell across is gone down into; else the own side.
 use denote.Ref.{now}
-use mathlib.Core.Path.{_∙_, sym}
+use mathlib.Core.Path.{_∙_}
 use Rattle.faces.proofs.Looks.{grown}
 use Rattle.faces.proofs.Leaves.{leaf-room, own-faced, own-recorded, split-recorded}
 use Rattle.faces.proofs.Own.{own-is}
 use borrow.Author.Needs.{needs}
 use Rattle.faces.proofs.side_steps.Statement.{statement}
 use Rattle.faces.proofs.side_steps.Tie as tie
-use Rattle.faces.proofs.side_steps.Reads as reads
-use Rattle.faces.proofs.side_steps.Lts as lts
-use Rattle.faces.proofs.face_steps.Reads as face-steps-reads
-use Rattle.faces.proofs.own_pattern.Reads as own-pattern-reads
-use Rattle.faces.proofs.side_key.Reads as side-key-reads
-use Rattle.faces.proofs.small_faces.Reads as small-faces-reads
-use Rattle.faces.proofs.split_across.Reads as split-across-reads
 
--- src/lib.rt:458:9
 side-key-requires : tie.Need-side-key-requires
 side-key-requires c κs =
     let s = c .before .before .before .before .before .before .before .before in
     leaf-room (now (s .args .cells)) (grown (now (s .args .cells)) (now (s .args .corners)) (s .args .clearance) (s .pre .0 .passed)) (s .args .key) (s .args .level) (s .pre .1 .1 .1)
 
--- src/lib.rt:459:9
 split-across-requires : tie.Need-split-across-requires
 split-across-requires c κs =
     let s = c .before .before .before .before .before .before .before .before .before in
     (grown (now (s .args .cells)) (now (s .args .corners)) (s .args .clearance) (s .pre .0 .passed), (s .pre .1 .1 .0, s .pre .1 .1 .1))
 
--- src/lib.rt:461:9
 small-faces-requires : tie.Need-small-faces-requires
 small-faces-requires c κs =
     let s = c .before .before .before .before .before .before .before .before .before .before .before .before .before .before in
     let n = c .before .before .before .before in
     (s .pre .0, (s .pre .1 .0, n .split-across .ensures .split (c .before .before .before .if1 .taken) (n .before .side-key .result) (n .before .side-key .ensures)))
 
--- src/lib.rt:462:9
 same-length : tie.Need-same-length
 same-length c = search needs
 
--- src/lib.rt:462:9
 same-length-2 : tie.Need-same-length-2
 same-length-2 c = search needs
 
--- src/lib.rt:462:9
 same-length-3 : tie.Need-same-length-3
 same-length-3 c = search needs
 
--- src/lib.rt:462:9
 returns : tie.Need-returns
 returns c =
     let s = c .before .before .before .before .before .before .before .before .before .before .before .before .before .before .before .before .before .before .before .before .before in
     let k = c .before .before .before .before .before .before .before .before .before .before .before .before in
     split-recorded (now (s .args .cells)) (now (s .args .corners)) (s .args .clearance) (s .args .axis) (s .args .upper) (s .args .key) (s .args .level) (k .side-key .result) (k .side-key .ensures) _ _ (c .before .before .before .before .before .before .small-faces .ensures)
 
--- src/lib.rt:464:114
 own-pattern-requires : tie.Need-own-pattern-requires
 own-pattern-requires c κs =
     let s = c .before .before .before .before .before .before .before .before .before .before .before .before .before .before in
     s .pre .1 .1 .0
 
--- src/lib.rt:464:5
 face-steps-requires : tie.Need-face-steps-requires
 face-steps-requires c κs =
     let s = c .before .before .before .before .before .before .before .before .before .before .before .before .before .before .before in
@@ -66,19 +51,15 @@ face-steps-requires c κs =
     let w = c .own-pattern .ensures .0 ∙ own-is (now (s .args .corners)) (s .args .clearance) (now (s .args .cells)) (s .args .axis) (s .args .upper) (s .args .key) (s .args .level) _ (k .side-key .result) (s .pre .1 .1 .2) (k .side-key .ensures) in
     (s .pre .0, (s .pre .1 .0, (own-faced (now (s .args .cells)) (now (s .args .corners)) (s .args .clearance) (s .args .axis) (s .args .upper) (s .args .key) (s .args .level) (k .side-key .result) (k .side-key .ensures) (s .pre .1 .1 .0) (s .pre .1 .1 .1), (c .own-pattern .ensures .1, w))))
 
--- src/lib.rt:451:1
 same-length-4 : tie.Need-same-length-4
 same-length-4 c = search needs
 
--- src/lib.rt:451:1
 same-length-5 : tie.Need-same-length-5
 same-length-5 c = search needs
 
--- src/lib.rt:451:1
 same-length-6 : tie.Need-same-length-6
 same-length-6 c = search needs
 
--- src/lib.rt:451:1
 returns-2 : tie.Need-returns-2
 returns-2 c =
     let s = c .before .before .before .before .before .before .before .before .before .before .before .before .before .before .before .before .before .before .before .before .before .before in

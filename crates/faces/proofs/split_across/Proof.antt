@@ -1,3 +1,4 @@
+-- `faces::split_across` meets its contract: below the box, no cell, a leaf, or a split cell.
 use denote.Ref.{now}
 use mathlib.Core.Path.{_∙_, refl, sym}
 use Rattle.faces.proofs.Leaves.{leaf-room}
@@ -5,38 +6,27 @@ use Rattle.faces.proofs.Own.{none-below, none-across, leaf-across, cell
 use borrow.Author.Needs.{needs}
 use Rattle.faces.proofs.split_across.Statement.{statement}
 use Rattle.faces.proofs.split_across.Tie as tie
-use Rattle.faces.proofs.split_across.Reads as reads
-use Rattle.faces.proofs.split_across.Lts as lts
-use Rattle.faces.proofs.across_key.Reads as across-key-reads
-use Rattle.faces.proofs.is_below.Reads as is-below-reads
-use Rattle.faces.proofs.record_of.Reads as record-of-reads
-use Rattle.records.proofs.cell_entry.Reads as cell-entry-reads
 
--- src/lib.rt:368:8
 is-below-requires : tie.Need-is-below-requires
 is-below-requires c κs =
     let s = c .before in
     leaf-room (now (s .args .cells)) (s .pre .0) (s .args .key) (s .args .level) (s .pre .1 .1) .0
 
--- src/lib.rt:369:9
 returns : tie.Need-returns
 returns c =
     let s = c .before .before .before in
     none-below (now (s .args .cells)) (s .pre .0) (s .args .axis) (s .args .upper) (s .args .key) (s .args .level) (s .pre .1 .0) _ (sym (c .before .is-below .ensures) ∙ c .if1 .taken) refl
 
--- src/lib.rt:371:37
 across-key-requires : tie.Need-across-key-requires
 across-key-requires c κs =
     let s = c .before .before .before in
     (leaf-room (now (s .args .cells)) (s .pre .0) (s .args .key) (s .args .level) (s .pre .1 .1), sym (c .before .is-below .ensures) ∙ c .if1 .left)
 
--- src/lib.rt:371:9
 record-of-requires : tie.Need-record-of-requires
 record-of-requires c κs =
     let s = c .before .before .before .before in
     (s .pre .0, leaf-room (now (s .args .cells)) (s .pre .0) (s .args .key) (s .args .level) (s .pre .1 .1) .0)
 
--- src/lib.rt:373:9
 returns-2 : tie.Need-returns-2
 returns-2 c =
     let s = c .before .before .before .before .before .before in
@@ -44,11 +34,9 @@ returns-2 c =
     let k′ = c .before in
     none-across (now (s .args .cells)) (s .pre .0) (s .args .axis) (s .args .upper) (s .args .key) (s .args .level) (s .pre .1 .0) (k .across-key .result) (k .across-key .ensures) (sym (k .before .before .is-below .ensures) ∙ k .before .if1 .left) (k′ .record-of .result) (k′ .record-of .ensures) _ (c .if2 .taken) refl
 
--- src/lib.rt:375:8
 cell-entry-requires : tie.Need-cell-entry-requires
 cell-entry-requires c κs = search needs
 
--- src/lib.rt:376:9
 returns-3 : tie.Need-returns-3
 returns-3 c =
     let s = c .before .before .before .before .before .before .before .before in
@@ -56,7 +44,6 @@ returns-3 c =
     let k′ = c .before .before .before in
     leaf-across (now (s .args .cells)) (s .pre .0) (s .args .axis) (s .args .upper) (s .args .key) (s .args .level) (s .pre .1 .0) (k .across-key .result) (k .across-key .ensures) (sym (k .before .before .is-below .ensures) ∙ k .before .if1 .left) (k′ .record-of .result) (k′ .record-of .ensures) _ (c .before .cell-entry .result) (c .before .before .if2 .left) (c .before .cell-entry .ensures) (c .if3 .taken) refl
 
--- src/lib.rt:362:1
 returns-4 : tie.Need-returns-4
 returns-4 c =
     let s = c .before .before .before .before .before .before .before .before in

@@ -1,17 +1,13 @@
+-- `faces::up` meets its contract: up on a side is right on the other.
 use mathlib.Core.Path.{_∙_}
 use Rattle.faces.proofs.Keys.{up-is}
 use borrow.Author.Needs.{needs}
 use Rattle.faces.proofs.up.Statement.{statement}
 use Rattle.faces.proofs.up.Tie as tie
-use Rattle.faces.proofs.up.Reads as reads
-use Rattle.faces.proofs.up.Lts as lts
-use Rattle.faces.proofs.right.Reads as right-reads
 
--- src/lib.rt:151:5
 right-requires : tie.Need-right-requires
 right-requires c κs = search needs
 
--- src/lib.rt:147:1
 returns : tie.Need-returns
 returns c = (c .right .ensures .0 ∙ up-is (c .before .args .axis) (c .before .args .upper), c .right .ensures .1)
 
