@@ -3,7 +3,10 @@ use rules::Answer;
 use rules::Edge;
 ghost use mathlib.Core.Path.{_≡_};
 ghost use Rattle.rules.specs.Outputs.{surveyRefusal, enquiry};
+ghost use Rattle.rules.specs.Closing.{ClosedIn};
+ghost use Rattle.drawing.specs.Draws.{lent, Draws};
 ghost use Rattle.clearance.specs.Reply.{replyOf, edgeReply};
+ghost use Rattle.clearance.specs.Counts.{drawnOf};
 
 // The answer of an enquiry as plain numbers: the number returned, whether the edge is crossing, the point's number and its place.
 #[repr(C)]
@@ -14,6 +17,14 @@ pub struct Reply {
     pub x: f32,
     pub y: f32,
     pub z: f32,
+}
+
+// What drawing returns: a number (0 if drawn) and both counts.
+#[repr(C)]
+pub struct Counts {
+    pub number: u32,
+    pub points: u32,
+    pub triangles: u32,
 }
 
 fn edge_reply(e: Edge) -> Reply
@@ -78,4 +89,26 @@ pub extern "C" fn clearance_enquire(
     ensures { λ r. ⌜ r ≡ replyOf (enquiry (now (cells .entry)) (now (corners .entry)) clearance axis (record { x = x; y = y; z = z }) length) ⌝ }
 {
     reply_of(edges::enquire(cells, corners, clearance, axis, x, y, z, length))
+}
+
+// Draws the surface of a survey at a clearance into the lent slices.
+#[no_mangle]
+pub extern "C" fn clearance_draw(
+    cells: &[u8],
+    corners: &[u8],
+    clearance: f32,
+    points: &mut [f32],
+    triangles: &mut [u32],
+) -> Counts
+    ensures exact { λ r. ⌜ Draws (lent (now (cells .entry)) (now (corners .entry)) clearance (now (points .entry)) (now (triangles .entry)))
+        (drawnOf r) (now (points .exit)) (now (triangles .exit)) ⌝ }
+    ensures closes { λ r. ⌜ (r .number ≡ 0 → ClosedIn (now (cells .entry)) (now (corners .entry)) clearance (drawnOf r)
+        (now (points .exit)) (now (triangles .exit))) ⌝ }
+{
+    let d = drawing::draw(cells, corners, clearance, points, triangles);
+    Counts {
+        number: d.number,
+        points: d.points,
+        triangles: d.triangles,
+    }
 }

@@ -11,6 +11,14 @@ pub struct Reply {
     pub z: f32,
 }
 
+/// What drawing returns.
+#[repr(C)]
+pub struct Counts {
+    pub number: u32,
+    pub points: u32,
+    pub triangles: u32,
+}
+
 extern "C" {
     pub fn clearance_check(
         cells: *const u8,
@@ -31,4 +39,16 @@ extern "C" {
         z: u32,
         length: u32,
     ) -> Reply;
+
+    pub fn clearance_draw(
+        cells: *const u8,
+        cells_length: usize,
+        corners: *const u8,
+        corners_length: usize,
+        clearance: f32,
+        points: *mut f32,
+        points_length: usize,
+        triangles: *mut u32,
+        triangles_length: usize,
+    ) -> Counts;
 }

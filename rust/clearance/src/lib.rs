@@ -16,6 +16,17 @@ pub enum Edge {
     },
 }
 
+/// The result of drawing into lent slices.
+#[derive(Clone, Copy, Debug, PartialEq, Eq)]
+pub struct Drawn {
+    /// 0 if drawn, else the number of the first refusal of 1 to 10 that applies; then neither slice was touched.
+    pub number: u32,
+    /// How many points there are; 0 with refusals 1 to 8.
+    pub points: u32,
+    /// How many triangles there are; 0 with refusals 1 to 8.
+    pub triangles: u32,
+}
+
 /// Checks a survey by itself: 0, or the number of the first refusal of 1 to 7 that applies.
 pub fn check(cells: &[u8], corners: &[u8]) -> u32 {
     // Sound: both slices are lent for the call, and every read inside them is proved.
@@ -54,4 +65,30 @@ pub fn enquire(
         }
         refused => Err(refused.number),
     }
+}
+
+/// Draws the surface of a survey at a clearance: three floats a point and three point numbers a triangle, from the front of each slice on. Elements
+/// past the last are untouched.
+pub fn draw(
+    cells: &[u8],
+    corners: &[u8],
+    clearance: f32,
+    points: &mut [f32],
+    triangles: &mut [u32],
+) -> Drawn {
+    // Sound: all slices are lent for the call, and every read and write inside them is proved.
+    let exported::Counts { number, points, triangles } = unsafe {
+        exported::clearance_draw(
+            cells.as_ptr(),
+            cells.len(),
+            corners.as_ptr(),
+            corners.len(),
+            clearance,
+            points.as_mut_ptr(),
+            points.len(),
+            triangles.as_mut_ptr(),
+            triangles.len(),
+        )
+    };
+    Drawn { number, points, triangles }
 }

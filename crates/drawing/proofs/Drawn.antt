@@ -1,0 +1,119 @@
+-- Drawing by the rules, step by step as the call goes: refused by a check, by a slice that is too short, or drawn. And what then stands in the
+-- slices is closed.
+use Prim.Native.Nat.{ℕ, _*_, _≤_}
+use native.Mathlib.Omega.{arith}
+use mathlib.Core.Path.{_≡_, refl, sym, ap, _∙_, subst}
+use mathlib.Core.Bool.{Bool, true, false, cond}
+use mathlib.Core.List.{List, [], _∷_}
+use lib.Dec.{T, eqb, ltb, nltb→le}
+use lib.ListN.{length, drop}
+use lib.Ieee.{Float}
+use Rattle.base.specs.Lists.{collect}
+use Rattle.base.proofs.Tests.{eq→eqb, true→, →true, →false, not-both}
+use Rattle.rules.specs.Survey.{cornersOf}
+use Rattle.rules.specs.Edges.{CellEdge, pointEdges, spotOn, OnEdge}
+use Rattle.rules.specs.Steps.{allTriangles}
+use Rattle.rules.specs.Outputs.{numbers, firstOf, checks, accepted, surveyOf, pointFloats, triangleNumbers, written, Drawing, draw}
+use Rattle.rules.specs.Closing.{Carries, Closed, ClosedIn}
+use Rattle.octree.proofs.Accepted.{first-append}
+use Rattle.places.proofs.Stored.{point-floats, placed}
+use Rattle.loops.proofs.Slices.{length-numbers}
+use Rattle.drawing.proofs.Slices.{room, triangles-back}
+
+-- neither slice is too short where the first check that applies has the number 0
+pub both-fit : (a b n m : ℕ) → firstOf ((9, ltb a n) ∷ (10, ltb b m) ∷ []) ≡ 0 → (n ≤ a) × (m ≤ b)
+both-fit a b n m = go (ltb a n) (ltb b m) refl refl
+  where
+    go : (u v : Bool) → ltb a n ≡ u → ltb b m ≡ v → _≡_ {A = ℕ} (cond u 9 (cond v 10 0)) 0 → (n ≤ a) × (m ≤ b)
+    go true v d e h = absurd (omega arith)
+    go false true d e h = absurd (omega arith)
+    go false false d e h = (nltb→le a n (→false d), nltb→le b m (→false e))
+
+-- a number that is 0 where the checks find nothing, and else theirs
+passed : (number short : ℕ) → cond (eqb number 0) short number ≡ 0 → T (eqb number 0) × (short ≡ 0)
+passed number short = go (eqb number 0) refl
+  where
+    go : (u : Bool) → eqb number 0 ≡ u → cond u short number ≡ 0 → T (eqb number 0) × (short ≡ 0)
+    go true e h = (→true e, h)
+    go false e h = absurd (not-both (eq→eqb number 0 h) e)
+
+module _ (tc tk : List ℕ) (clearance : Float) (ps : List Float) (ts : List ℕ) where
+  -- what drawing gives at a number
+  unfoldable pub given : ℕ → Drawing
+  unfolding surveyOf pointEdges allTriangles pointFloats triangleNumbers accepted
+  given number =
+      let s = surveyOf tc tk clearance in
+      let newPoints = written (pointFloats tc tk clearance) ps in
+      let newTriangles = written (triangleNumbers tc tk clearance) ts in
+      record {
+        result = record {
+          number = number;
+          points = cond (accepted tc tk clearance) (length (pointEdges s)) 0;
+          triangles = cond (accepted tc tk clearance) (length (allTriangles s)) 0;
+        };
+        points = cond (eqb number 0) newPoints ps;
+        triangles = cond (eqb number 0) newTriangles ts;
+      }
+
+  -- the number of the first check of the slices that applies
+  unfoldable pub shortness : ℕ
+  unfolding surveyOf pointEdges allTriangles
+  shortness =
+      let s = surveyOf tc tk clearance in
+      firstOf ((9, ltb (length ps) (3 * length (pointEdges s))) ∷ (10, ltb (length ts) (3 * length (allTriangles s))) ∷ [])
+
+  -- drawing: refused by the survey's and the clearance's checks, else by the slices'
+  pub draw-is : draw tc tk clearance ps ts ≡ given (cond (accepted tc tk clearance) shortness (firstOf (checks tc tk clearance)))
+  unfolding draw given shortness accepted
+  draw-is =
+      let s = surveyOf tc tk clearance in
+      ap given (first-append (checks tc tk clearance) ((9, ltb (length ps) (3 * length (pointEdges s))) ∷ (10, ltb (length ts) (3 * length (allTriangles s))) ∷ []) tt)
+
+  -- the number is 0 only where the survey is accepted and both slices are long enough
+  pub drawn-fits : draw tc tk clearance ps ts .result .number ≡ 0 → let s = surveyOf tc tk clearance in
+      T (accepted tc tk clearance) × (3 * length (pointEdges s) ≤ length ps) × (3 * length (allTriangles s) ≤ length ts)
+  unfolding given shortness accepted
+  drawn-fits zero =
+      let s = surveyOf tc tk clearance in
+      let h : given (cond (accepted tc tk clearance) shortness (firstOf (checks tc tk clearance))) .result .number ≡ 0 =
+      subst (λ (d : Drawing). d .result .number ≡ 0) draw-is zero in
+      let p = passed (firstOf (checks tc tk clearance)) shortness h in
+      let f = both-fit (length ps) (length ts) (3 * length (pointEdges s)) (3 * length (allTriangles s)) (p .1) in
+      (p .0, f .0, f .1)
+
+  -- what is drawn where nothing refuses
+  unfoldable pub whole : Drawing
+  unfolding surveyOf pointEdges allTriangles pointFloats triangleNumbers
+  whole =
+      let s = surveyOf tc tk clearance in
+      record {
+        result = record { number = 0; points = length (pointEdges s); triangles = length (allTriangles s) };
+        points = written (pointFloats tc tk clearance) ps;
+        triangles = written (triangleNumbers tc tk clearance) ts;
+      }
+
+  pub drawn-is : draw tc tk clearance ps ts .result .number ≡ 0 → draw tc tk clearance ps ts ≡ whole
+  unfolding given whole
+  drawn-is zero =
+      let n = cond (accepted tc tk clearance) shortness (firstOf (checks tc tk clearance)) in
+      let h : n ≡ 0 = ap (λ (d : Drawing). d .result .number) (sym draw-is) ∙ zero in
+      draw-is ∙ ap given h ∙ rw (true→ (accepted tc tk clearance) (drawn-fits zero .0))
+
+  -- Demand 3 of what stands in the lent slices, given that the rules' triangles close and their points lie on their edges.
+  module _ (closes : let s = surveyOf tc tk clearance in Closed s (length (pointEdges s)) (allTriangles s))
+      (on-edge : (e : CellEdge) (p : ℕ) → Carries (surveyOf tc tk clearance) e p → OnEdge e (spotOn (cornersOf tk) clearance e)) where
+    whole-closed : ClosedIn tc tk clearance (whole .result) (whole .points) (whole .triangles)
+    unfolding whole triangleNumbers
+    whole-closed =
+        let s = surveyOf tc tk clearance in
+        let written-numbers = collect numbers (allTriangles s) in
+        record {
+          closed = subst (λ t. Closed s (length (pointEdges s)) t) (sym (triangles-back (allTriangles s) (drop (length written-numbers) ts))) closes;
+          points-fit = omega (arith, point-floats tc tk clearance, room (pointFloats tc tk clearance) ps);
+          triangles-fit = omega (arith, length-numbers (allTriangles s), room written-numbers ts);
+          placed = placed tc tk clearance ps;
+          on-edge = on-edge;
+        }
+
+    pub closed-in : let d = draw tc tk clearance ps ts in d .result .number ≡ 0 → ClosedIn tc tk clearance (d .result) (d .points) (d .triangles)
+    closed-in zero = subst (λ (d : Drawing). ClosedIn tc tk clearance (d .result) (d .points) (d .triangles)) (sym (drawn-is zero)) whole-closed
