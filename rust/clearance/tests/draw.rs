@@ -134,3 +134,16 @@ fn damaged_surveys_touch_nothing() {
         assert_same(&damage::corrupted(seed), 40, 40, &format!("corrupted, seed {seed}"));
     }
 }
+
+#[test]
+fn a_stack_of_512_kib_is_enough() {
+    let surveys = [generate::long_loop(0), document::full()];
+    let thread = std::thread::Builder::new().stack_size(512 * 1024);
+    let drawing = thread.spawn(move || {
+        for Survey { cells, corners, clearance } in &surveys {
+            let (mut points, mut triangles) = (vec![FLOAT; 50_000], vec![NUMBER; 150_000]);
+            assert_eq!(clearance::draw(cells, corners, *clearance, &mut points, &mut triangles).number, 0);
+        }
+    });
+    drawing.expect("a thread").join().expect("drawn");
+}
