@@ -50,6 +50,9 @@ fn assert_same(survey: &Survey, points: usize, triangles: usize, what: &str) -> 
     (result, floats, numbers)
 }
 
+/// What a check of demand 3 says of a drawing.
+type ClosingCheck = fn(&Survey, &[f32], &[u32]) -> Result<(), closing::Breach>;
+
 /// Draws into slices that are exactly long enough, one element too short, empty, and longer than needed.
 fn assert_drawn(
     survey: &Survey,
