@@ -10,7 +10,7 @@ const NUMBER: u32 = 0xdead_beef;
 const GUARD: usize = 5;
 
 /// A drawing into slices of these lengths, with guards around them. Panics if an element outside was touched.
-fn drawn(survey: &Survey, points: usize, triangles: usize, what: &str) -> (Drawn, Vec<f32>, Vec<u32>) {
+fn drawn(survey: &Survey, points: usize, triangles: usize, what: &str) -> Slices {
     let mut floats = vec![FLOAT; points + 2 * GUARD];
     let mut numbers = vec![NUMBER; triangles + 2 * GUARD];
     let Survey { cells, corners, clearance } = survey;
@@ -35,7 +35,7 @@ fn drawn(survey: &Survey, points: usize, triangles: usize, what: &str) -> (Drawn
 }
 
 /// Draws with both drawings into slices of these lengths; result and slices must be the same bits.
-fn assert_same(survey: &Survey, points: usize, triangles: usize, what: &str) -> (Drawn, Vec<f32>, Vec<u32>) {
+fn assert_same(survey: &Survey, points: usize, triangles: usize, what: &str) -> Slices {
     let (result, floats, numbers) = drawn(survey, points, triangles, what);
     let (mut expected_floats, mut expected_numbers) = (vec![FLOAT; points], vec![NUMBER; triangles]);
     let Survey { cells, corners, clearance } = survey;
@@ -50,15 +50,14 @@ fn assert_same(survey: &Survey, points: usize, triangles: usize, what: &str) -> 
     (result, floats, numbers)
 }
 
+/// A result, and both slices afterwards.
+type Slices = (Drawn, Vec<f32>, Vec<u32>);
+
 /// What a check of demand 3 says of a drawing.
 type ClosingCheck = fn(&Survey, &[f32], &[u32]) -> Result<(), closing::Breach>;
 
 /// Draws into slices that are exactly long enough, one element too short, empty, and longer than needed.
-fn assert_drawn(
-    survey: &Survey,
-    check: fn(&Survey, &[f32], &[u32]) -> Result<(), closing::Breach>,
-    what: &str,
-) {
+fn assert_drawn(survey: &Survey, check: ClosingCheck, what: &str) {
     let (counts, ..) = assert_same(survey, 0, 0, what);
     let (points, triangles) = (3 * counts.points as usize, 3 * counts.triangles as usize);
     let (result, floats, numbers) = assert_same(survey, points, triangles, what);
