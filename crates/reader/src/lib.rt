@@ -1,9 +1,11 @@
-// Corner look-up through one small reader laid over the lent corner bytes. The functions over the reader are thin: the work is that of records.
+// Corner look-up through one small reader laid over the lent corner bytes: every look-up of a corner by its place goes through `find`. Uses records.
 ghost use mathlib.Core.Path.{_≡_};
-ghost use Prim.Native.Nat.{_+_, _*_, _≤_};
+ghost use mathlib.Core.Bool.{true};
+ghost use Prim.Native.Nat.{_+_, _*_, _≤_, _/_};
 ghost use lib.ListN.{length};
 ghost use Rattle.rules.specs.Survey.{cornerRecord};
-ghost use Rattle.records.specs.Keys.{recordAt};
+ghost use Rattle.rules.specs.Outputs.{rising};
+ghost use Rattle.records.specs.Keys.{placesOf, recordAt};
 ghost use Rattle.reader.specs.Ordered.{Ordered};
 use rules::Corner;
 
@@ -13,19 +15,44 @@ pub struct Reader<'a> {
     pub count: usize,
 }
 
-// The number of the corner record at the place with this key; `count` where there is none.
-pub fn find_in(bytes: &[u8], count: usize, key: u64) -> usize
-    requires { ⌜ Ordered (now bytes) count ⌝ }
-    ensures { λ r. ⌜ r ≡ recordAt (now (bytes .entry)) key ⌝ }
+// How many records there are.
+pub fn count_of(bytes: &[u8]) -> usize
+    ensures { λ r. ⌜ r ≡ length (now (bytes .entry)) / 10 ⌝ }
 {
-    records::find(bytes, count, key)
+    bytes.len() / 10
+}
+
+// The number of the corner record at the place with this key, by halving; `count` where there is none.
+pub fn find_in(corners: &[u8], count: usize, key: u64) -> usize
+    requires { ⌜ Ordered (now corners) count ⌝ }
+    ensures { λ r. ⌜ r ≡ recordAt (now (corners .entry)) key ⌝ }
+{
+    let mut low: usize = 0;
+    let mut high: usize = count;
+    while low < high {
+        let middle = low + (high - low) / 2;
+        if records::key_at(corners, middle) < key {
+            low = middle + 1;
+        } else {
+            high = middle;
+        }
+    }
+    if low < count {
+        if records::key_at(corners, low) == key {
+            return low;
+        }
+    }
+    count
 }
 
 // The reader over some bytes.
-pub fn laid<'a>(bytes: &'a [u8], count: usize) -> Reader<'a>
-    ensures { λ r. ⌜ (r .bytes ≡ bytes .entry) × (r .count ≡ count) ⌝ }
+pub fn laid<'a>(bytes: &'a [u8]) -> Reader<'a>
+    ensures { λ r. ⌜ (r .bytes ≡ bytes .entry) × (r .count ≡ length (now (bytes .entry)) / 10) ⌝ }
 {
-    Reader { bytes, count }
+    Reader {
+        bytes,
+        count: count_of(bytes),
+    }
 }
 
 // The look-up, by the reader.
@@ -44,10 +71,10 @@ pub fn take_up<'a>(r: Reader<'a>, n: usize) -> Corner
     records::corner_at(r.bytes, n)
 }
 
-// From plain bytes through a reader: whoever calls this one needs no walk by hand.
-pub fn find_by_reader(bytes: &[u8], count: usize, key: u64) -> usize
-    requires { ⌜ Ordered (now bytes) count ⌝ }
-    ensures { λ r. ⌜ r ≡ recordAt (now (bytes .entry)) key ⌝ }
+// The look-up in plain bytes, through a reader laid over them: whoever calls this one needs no walk by hand.
+pub fn find(corners: &[u8], key: u64) -> usize
+    requires { ⌜ rising (placesOf (now corners)) ≡ true ⌝ }
+    ensures { λ r. ⌜ r ≡ recordAt (now (corners .entry)) key ⌝ }
 {
-    look_up(laid(bytes, count), key)
+    look_up(laid(corners), key)
 }

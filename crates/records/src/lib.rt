@@ -108,27 +108,3 @@ pub fn corners_rise(corners: &[u8], count: usize) -> bool
     }
     true
 }
-
-// The number of the corner record at the place with this key, by halving; `count` where there is none.
-pub fn find(corners: &[u8], count: usize, key: u64) -> usize
-    requires { ⌜ count ≡ length (now corners) / 10 ⌝ }
-    requires { ⌜ rising (placesOf (now corners)) ≡ true ⌝ }
-    ensures { λ r. ⌜ r ≡ recordAt (now (corners .entry)) key ⌝ }
-{
-    let mut low: usize = 0;
-    let mut high: usize = count;
-    while low < high {
-        let middle = low + (high - low) / 2;
-        if key_at(corners, middle) < key {
-            low = middle + 1;
-        } else {
-            high = middle;
-        }
-    }
-    if low < count {
-        if key_at(corners, low) == key {
-            return low;
-        }
-    }
-    count
-}

@@ -1,12 +1,12 @@
--- `records::find` meets its contract: before each turn the records below `low` have smaller keys, and those from `high` on keys that are no smaller.
+-- `reader::find_in` meets its contract: before each turn the records below `low` have smaller keys, and those from `high` on keys that are no smaller.
 use native.Mathlib.Omega.{arith}
 use mathlib.Core.Path.{_∙_}
 use Rattle.records.proofs.Search.{below-middle, from-middle, is-at, is-nowhere}
 use Prim.Native.Nat.{ℕ, _+_, _-_, _/_, _≤_, _<_}
 use Rattle.records.proofs.Search.{keyAt}
 use borrow.Author.Needs.{needs}
-use Rattle.records.proofs.find.Statement.{statement}
-use Rattle.records.proofs.find.Tie as tie
+use Rattle.reader.proofs.find_in.Statement.{statement}
+use Rattle.reader.proofs.find_in.Tie as tie
 
 abbrev Inv-loop : tie.InvT-loop
 Inv-loop corners count key low₀ high₀ low high = (low ≤ high) × (high ≤ count) × ((j : ℕ) → j < low → keyAt corners j < key) × ((j : ℕ) → high ≤ j
@@ -78,8 +78,8 @@ returns-3 c =
     let s = l .before .before in
     s .pre .0 ∙ is-nowhere (s .args .corners .now) (s .args .key) (l .loop .low) (l .loop .inv .2) (λ j h k. omega arith)
 
-pub find-spec : {M : Type 1} → statement M
-find-spec =
+pub find-in-spec : {M : Type 1} → statement M
+find-in-spec =
     tie.close
     (tie.spec
     Inv-loop
