@@ -1,4 +1,4 @@
-// The refusals of a survey: document 01, "Outputs and refusals", checks 1 to 8 in their order. Uses records and cells.
+// The refusals of a survey: document 01, "Outputs and refusals", checks 1 to 8 in their order. Uses records, reader and cells.
 ghost use mathlib.Core.Path.{_≡_};
 ghost use mathlib.Core.Bool.{true, not};
 ghost use Prim.Native.Nat.{ℕ, _+_, _*_, _≤_, _<_, _/_};
@@ -61,7 +61,7 @@ fn mark_corners(corners: &[u8], count: usize, key: u64, level: u8, marks: &mut [
     let size = cells::size_of(level);
     let mut i: usize = 0;
     while i < 8 {
-        let at = records::find(corners, count, key + cells::octant_key(i, size));
+        let at = reader::find(corners, key + cells::octant_key(i, size));
         if count <= at {
             return false;
         }

@@ -22,9 +22,8 @@ pub fn upper_end(corners: &[u8], axis: u32, k: usize, level: u8) -> usize
     requires { ⌜ (k < length (now corners) / 10) × (level ≤ 10) ⌝ }
     ensures { λ r. ⌜ r ≡ recordAt (now (corners .entry)) (keyOf (move (axisOf axis) (2 ^ level) (placeAt (placesOf (now (corners .entry))) k))) ⌝ }
 {
-    records::find(
+    reader::find(
         corners,
-        corners.len() / 10,
         keys::step(records::key_at(corners, k), axis, level),
     )
 }

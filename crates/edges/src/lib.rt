@@ -1,5 +1,5 @@
 // Edges and crossing points of a survey: the tables of levels and numbers, the point of an odd edge, twins, and the edge enquiry.
-// Uses records and cells. specs/ says what each table holds.
+// Uses records, reader, cells, checks and places. specs/ says what each table holds.
 ghost use mathlib.Core.Path.{_≡_};
 ghost use mathlib.Core.Bool.{true, cond};
 ghost use mathlib.Core.List.{[], _∷_};
@@ -38,7 +38,7 @@ fn note_edge(corners: &[u8], lowest: &mut [u8], highest: &mut [u8], axis: u32, k
         (now (lowest .entry)) (now (highest .entry)) (now (lowest .exit)) (now (highest .exit))) ⌝ }
 {
     let count = corners.len() / 10;
-    let k = records::find(corners, count, key);
+    let k = reader::find(corners, key);
     if k >= count {
         return;
     }
@@ -235,7 +235,7 @@ fn edge_record(
     ensures { λ r. ⌜ ((p : Place) → Short p → key ≡ keyOf p → Sought (now (cells .entry)) (now (corners .entry)) (axisOf axis) p level r) ⌝ }
 {
     let count = corners.len() / 10;
-    let k = records::find(corners, count, key);
+    let k = reader::find(corners, key);
     if k >= count {
         return count;
     }

@@ -52,7 +52,7 @@ pub fn climb(
             return v;
         }
         if !ends::is_odd(corners, clearance, wets, axis, up, level + 1) {
-            let half = records::find(corners, count, ends::other_key(corners, axis, k, level));
+            let half = reader::find(corners, ends::other_key(corners, axis, k, level));
             return crate::point_of(
                 cells,
                 corners,

@@ -193,7 +193,7 @@ fn corner_record(corners: &[u8], key: u64) -> usize
     requires { ⌜ Listed (now corners) key ⌝ }
     ensures { λ r. ⌜ (r < length (now (corners .entry)) / 10) × (placeAt (placesOf (now (corners .entry))) r ≡ placeWith key) ⌝ }
 {
-    records::find(corners, corners.len() / 10, key)
+    reader::find(corners, key)
 }
 
 // A byte as a wider number.

@@ -46,8 +46,7 @@ add-find c =
 
 find-requires : tie.Need-find-requires Inv-loop μ-loop
 find-requires c κs =
-    let s = c .before .before .before .before .before .before in
-    (s .pre .0, s .pre .1 .0)
+    c .before .before .before .before .before .before .pre .1 .0
 
 same-length : tie.Need-same-length Inv-loop μ-loop
 same-length c = search needs

@@ -19,7 +19,7 @@ find-requires c κs =
     let tc = s .args .cells .now in
     let tk = s .args .corners .now in
     let v = s .args .clearance in
-    (refl, corners tc tk v (s .pre .0) .rises)
+    corners tc tk v (s .pre .0) .rises
 
 returns : tie.Need-returns
 returns c =

@@ -169,19 +169,8 @@ other-key-requires c κs =
 
 find-requires : tie.Need-find-requires Inv-loop μ-loop
 find-requires c κs =
-    let l = c .before .before .before .before .before .before in
-    let s = l .before .before .before .before .before .before .before in
-    let tc = s .args .cells .now in
-    let tk = s .args .corners .now in
-    let v = s .args .clearance in
-    let n = s .args .axis in
-    let a = axisOf n in
-    let k = l .loop .k in
-    let m = l .loop .level in
-    let i = l .loop .inv .0 in
-    let g = s .pre .1 .1 .1 .1 .1 .0 in
-    let top = odd-level tc tk v (s .pre .0) (s .args .lowest .now) (s .pre .1 .1 .0) n g k m (i .odd-edge) in
-    (l .loop .inv .2, corners tc tk v (s .pre .0) .rises)
+    let s = c .before .before .before .before .before .before .before .before .before .before .before .before .before in
+    corners (s .args .cells .now) (s .args .corners .now) (s .args .clearance) (s .pre .0) .rises
 
 point-of-requires : tie.Need-point-of-requires Inv-loop μ-loop
 point-of-requires c κs =
