@@ -1,0 +1,26 @@
+-- The table of cells' corners: for each cell record and each of its eight corners, the number of the corner record there.
+use Prim.Native.Nat.{ℕ, _+_, _*_, _/_, _^_, _<_}
+use mathlib.Core.Path.{_≡_}
+use mathlib.Core.List.{List}
+use lib.ListN.{length, getD}
+use Rattle.base.specs.Grid.{Place, origin, octants}
+use Rattle.records.specs.Keys.{placesOf}
+use Rattle.cells.specs.Laid.{cellAt}
+
+-- the place of corner i of the cell of record n
+abbrev pub octantOf : List ℕ → ℕ → ℕ → Place
+octantOf tc n i = getD (octants (2 ^ cellAt tc n .level) (cellAt tc n .low)) i origin
+
+-- the number k is that of the corner record at corner i of the cell of record n
+pub record Octant (tc tk : List ℕ) (n i k : ℕ) : Type 0 where
+  pub number : k < length tk / 10
+  pub place : getD (placesOf tk) k origin ≡ octantOf tc n i
+
+-- the table holds the corners of the cells of the records below m
+pub record OctantsTo (tc tk t : List ℕ) (m : ℕ) : Type 0 where
+  pub room : length t ≡ 16392
+  pub octant : (n i : ℕ) → n < m → i < 8 → Octant tc tk n i (getD t (8 * n + i) 0)
+
+-- the table holds the corners of all cells
+abbrev pub Octants : List ℕ → List ℕ → List ℕ → Type 0
+Octants tc tk t = OctantsTo tc tk t (length tc / 4)
