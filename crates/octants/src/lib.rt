@@ -1,19 +1,20 @@
-// The corner records of every cell, looked up once: what is drawn from this table needs no search. Uses records, reader, cells and checks.
+// The corner records of every cell, looked up once: what follows needs no search for them. Uses records, reader and cells.
 ghost use mathlib.Core.Path.{_≡_};
-ghost use Prim.Native.Nat.{ℕ, _+_, _*_, _/_, _≤_, _<_};
-ghost use lib.ListN.{length};
-ghost use Rattle.rules.specs.Outputs.{surveyRefusal};
-ghost use Rattle.records.specs.Keys.{keyOf};
-ghost use Rattle.cells.specs.Laid.{Laid, cellAt};
-ghost use Rattle.octants.specs.Octants.{OctantsTo, Octants};
+ghost use mathlib.Core.Bool.{true};
+ghost use Prim.Native.Nat.{ℕ, _+_, _*_, _^_, _≤_, _<_};
+ghost use lib.ListN.{length, getD};
+ghost use Rattle.rules.specs.Outputs.{rising};
+ghost use Rattle.records.specs.Keys.{placesOf, recordAt};
+ghost use Rattle.cells.specs.Laid.{octantKey, writtenAt};
+ghost use Rattle.octants.specs.Octants.{LookedUp};
 
-// Looks up the eight corners of the cell of record `n`, by the key of its lowest corner and its level.
-fn fill_cell(cells: &[u8], corners: &[u8], n: usize, key: u64, level: u8, octants: &mut [u16])
-    requires { ⌜ surveyRefusal (now cells) (now corners) ≡ 0 ⌝ }
-    requires { ⌜ (n < length (now cells) / 4) × (n < 2049) × (key ≤ 9223372036854775808) × (level ≤ 10) ⌝ }
-    requires { ⌜ (key ≡ keyOf (cellAt (now cells) n .low)) × (level ≡ cellAt (now cells) n .level) ⌝ }
-    requires { ⌜ OctantsTo (now cells) (now corners) (now octants) n ⌝ }
-    ensures { λ _. ⌜ OctantsTo (now (cells .entry)) (now (corners .entry)) (now (octants .exit)) (n + 1) ⌝ }
+// Looks up the eight corners of cell `n`, by the key of its lowest corner and its level.
+fn fill_cell(corners: &[u8], n: usize, key: u64, level: u8, octants: &mut [u16])
+    requires { ⌜ rising (placesOf (now corners)) ≡ true ⌝ }
+    requires { ⌜ (length (now corners) ≤ 48720) × (length (now octants) ≡ 16392) ⌝ }
+    requires { ⌜ (n < 2049) × (key ≤ 9223372036854775808) × (level ≤ 10) ⌝ }
+    ensures { λ _. ⌜ now (octants .exit)
+        ≡ writtenAt (λ i. recordAt (now (corners .entry)) (key + octantKey i (2 ^ level))) (8 * n) 8 (now (octants .entry)) ⌝ }
 {
     let size = cells::size_of(level);
     let mut i: usize = 0;
@@ -23,17 +24,17 @@ fn fill_cell(cells: &[u8], corners: &[u8], n: usize, key: u64, level: u8, octant
     }
 }
 
-// The table of the corners of all cells, filled record by record.
-pub fn fill(cells: &[u8], corners: &[u8], keys: &[u64], levels: &[u8], octants: &mut [u16])
-    requires { ⌜ surveyRefusal (now cells) (now corners) ≡ 0 ⌝ }
-    requires { ⌜ Laid (now cells) (now keys) (now levels) ⌝ }
-    requires { ⌜ (length (now cells) / 4 ≤ length (now keys)) × (length (now cells) / 4 ≤ length (now levels)) ⌝ }
-    requires { ⌜ length (now octants) ≡ 16392 ⌝ }
-    ensures { λ _. ⌜ Octants (now (cells .entry)) (now (corners .entry)) (now (octants .exit)) ⌝ }
+// The table of the corners of the first cells, filled by their keys and levels.
+pub fn fill(corners: &[u8], keys: &[u64], levels: &[u8], cells: usize, octants: &mut [u16])
+    requires { ⌜ rising (placesOf (now corners)) ≡ true ⌝ }
+    requires { ⌜ (length (now corners) ≤ 48720) × (length (now octants) ≡ 16392) ⌝ }
+    requires { ⌜ (cells ≤ 2049) × (cells ≤ length (now keys)) × (cells ≤ length (now levels)) ⌝ }
+    requires { ⌜ ((n : ℕ) → n < cells → (getD (now keys) n 0 ≤ 9223372036854775808) × (getD (now levels) n 0 ≤ 10)) ⌝ }
+    ensures { λ _. ⌜ LookedUp (now (corners .entry)) (now (keys .entry)) (now (levels .entry)) (now (octants .exit)) cells ⌝ }
 {
     let mut n: usize = 0;
-    while n < cells.len() / 4 {
-        fill_cell(cells, corners, n, keys[n], levels[n], octants);
+    while n < cells {
+        fill_cell(corners, n, keys[n], levels[n], octants);
         n += 1;
     }
 }
