@@ -1,4 +1,4 @@
-//! Builds the proved static library with the Rattle toolchain and links it. `CLEARANCE_LIB` names a directory that holds it already.
+//! Builds the proved static library with the Rattle toolchain and links it. `CLEARANCE_LIB` names a directory that holds `libclearance.a` already.
 
 use std::path::{Path, PathBuf};
 use std::process::Command;
@@ -6,11 +6,19 @@ use std::process::Command;
 fn main() {
     println!("cargo:rerun-if-env-changed=CLEARANCE_LIB");
     let directory = match std::env::var_os("CLEARANCE_LIB") {
-        Some(directory) => PathBuf::from(directory),
+        Some(directory) => given(PathBuf::from(directory)),
         None => built(),
     };
     println!("cargo:rustc-link-search=native={}", directory.display());
     println!("cargo:rustc-link-lib=static=clearance");
+}
+
+/// The directory that the caller names, after a look at what is there.
+fn given(directory: PathBuf) -> PathBuf {
+    let archive = directory.join("libclearance.a");
+    assert!(archive.is_file(), "CLEARANCE_LIB: there is no {}", archive.display());
+    println!("cargo:rerun-if-changed={}", archive.display());
+    directory
 }
 
 /// The directory into which `rt staticlib clearance` writes, after it has proved what changed.

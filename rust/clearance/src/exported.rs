@@ -1,4 +1,5 @@
-//! The C interface of the proved static library. A slice passes as a pointer and a length.
+//! The C interface of the proved static library, `include/clearance.h`, and the only module with unsafe code: each call made safe by itself. A slice
+//! passes as a pointer and a length; the pointer of an empty slice is not null and is not followed.
 
 /// The enquiry's answer as plain numbers.
 #[repr(C)]
@@ -20,14 +21,14 @@ pub struct Counts {
 }
 
 extern "C" {
-    pub fn clearance_check(
+    fn clearance_check(
         cells: *const u8,
         cells_length: usize,
         corners: *const u8,
         corners_length: usize,
     ) -> u32;
 
-    pub fn clearance_enquire(
+    fn clearance_enquire(
         cells: *const u8,
         cells_length: usize,
         corners: *const u8,
@@ -40,7 +41,7 @@ extern "C" {
         length: u32,
     ) -> Reply;
 
-    pub fn clearance_draw(
+    fn clearance_draw(
         cells: *const u8,
         cells_length: usize,
         corners: *const u8,
@@ -51,4 +52,58 @@ extern "C" {
         triangles: *mut u32,
         triangles_length: usize,
     ) -> Counts;
+}
+
+pub fn check(cells: &[u8], corners: &[u8]) -> u32 {
+    // SAFETY: each pointer and length is of a slice lent for the call; the library is proved to read only inside.
+    unsafe { clearance_check(cells.as_ptr(), cells.len(), corners.as_ptr(), corners.len()) }
+}
+
+pub fn enquire(
+    cells: &[u8],
+    corners: &[u8],
+    clearance: f32,
+    axis: u32,
+    [x, y, z]: [u32; 3],
+    length: u32,
+) -> Reply {
+    // SAFETY: each pointer and length is of a slice lent for the call; the library is proved to read only inside. The reply is plain numbers.
+    unsafe {
+        clearance_enquire(
+            cells.as_ptr(),
+            cells.len(),
+            corners.as_ptr(),
+            corners.len(),
+            clearance,
+            axis,
+            x,
+            y,
+            z,
+            length,
+        )
+    }
+}
+
+pub fn draw(
+    cells: &[u8],
+    corners: &[u8],
+    clearance: f32,
+    points: &mut [f32],
+    triangles: &mut [u32],
+) -> Counts {
+    // SAFETY: each pointer and length is of a slice lent for the call, the last two for writing and to nobody else; the library is proved to read and
+    // write only inside. Any bits are lawful elements.
+    unsafe {
+        clearance_draw(
+            cells.as_ptr(),
+            cells.len(),
+            corners.as_ptr(),
+            corners.len(),
+            clearance,
+            points.as_mut_ptr(),
+            points.len(),
+            triangles.as_mut_ptr(),
+            triangles.len(),
+        )
+    }
 }

@@ -1,39 +1,92 @@
-//! The proved clearance library, as safe Rust. The calls are document 01's; what they return is proved equal to its rules for every input.
+//! Clearance surfaces over a lock survey: the proved library as safe Rust.
+//!
+//! A survey is a cell table (an octree) and a corner table (a sounding at every corner of every cell), both as bytes. At a clearance the surface
+//! between wet and dry corners is drawn as points on the octree's edges and triangles between them. The calls are those of document 01; what they
+//! return, and what they write, is proved equal to its rules for every input. What can't be drawn is refused by one of the eleven
+//! [refusals](Refusal).
+//!
+//! Nothing is kept between calls and nothing is allocated inside them, so any number of threads may call. A call needs less than 512 KiB of stack.
+//!
+//! # The tables
+//!
+//! Both are little-endian records without a header, as document 01 has them:
+//!
+//! - a cell is 4 bytes: 0 for a leaf, else the record number of the first of its eight children in a row. Record 0 is the box, from 0 to 1,024 on
+//!   each axis; the child in place i is in the upper half of x, y and z by bits 0, 1 and 2 of i;
+//! - a corner is 10 bytes: x, y and z (16 bits each) and the sounding (binary32). Corners rise by z, then y, then x.
+//!
+//! A corner is wet if its sounding is at least the clearance.
+//!
+//! ```
+//! use clearance::{draw_to_vec, enquire, Edge, Refusal};
+//!
+//! // The box is one leaf, and only its corner at (0, 0, 0) is wet.
+//! let cells = 0u32.to_le_bytes();
+//! let mut corners = Vec::new();
+//! for place in 0..8u16 {
+//!     let sounding: f32 = if place == 0 { 1.0 } else { -1.0 };
+//!     for axis in 0..3 {
+//!         corners.extend((1024 * (place >> axis & 1)).to_le_bytes());
+//!     }
+//!     corners.extend(sounding.to_le_bytes());
+//! }
+//!
+//! let mesh = draw_to_vec(&cells, &corners, 0.0)?;
+//! assert_eq!(mesh.points, [[512.0, 0.0, 0.0], [0.0, 512.0, 0.0], [0.0, 0.0, 512.0]]);
+//! assert_eq!(mesh.triangles, [[0, 1, 2]]);
+//!
+//! let along_y = enquire(&cells, &corners, 0.0, 1, [0, 0, 0], 1024)?;
+//! assert_eq!(along_y, Edge::Crossing { number: 1, place: [0.0, 512.0, 0.0] });
+//!
+//! corners.truncate(70);
+//! assert_eq!(draw_to_vec(&cells, &corners, 0.0), Err(Refusal::CornerSet));
+//! # Ok::<(), Refusal>(())
+//! ```
 
+#![deny(unsafe_code)]
+
+#[allow(unsafe_code)] // the calls into the static library
 mod exported;
+mod outputs;
+mod refusal;
 
-/// What the enquiry says of an edge.
-#[derive(Clone, Copy, Debug, PartialEq)]
-pub enum Edge {
-    /// Both ends are wet, or both are dry.
-    Even,
-    /// One end is wet and one is dry.
-    Crossing {
-        /// The point's number.
-        number: u32,
-        /// The point's place.
-        place: [f32; 3],
-    },
+pub use outputs::{Counts, Edge, Mesh, Refused};
+pub use refusal::Refusal;
+
+/// Checks a survey by itself.
+///
+/// ```
+/// let cells = std::fs::read("../../examples/twin/cells")?;
+/// let corners = std::fs::read("../../examples/twin/corners")?;
+/// clearance::check(&cells, &corners)?;
+/// assert_eq!(clearance::check(&cells[..64], &corners), Err(clearance::Refusal::CellEntry));
+/// # Ok::<(), Box<dyn std::error::Error>>(())
+/// ```
+///
+/// # Errors
+///
+/// The first refusal of 1 to 7 that applies.
+pub fn check(cells: &[u8], corners: &[u8]) -> Result<(), Refusal> {
+    passed(exported::check(cells, corners))
 }
 
-/// The result of drawing into lent slices.
-#[derive(Clone, Copy, Debug, PartialEq, Eq)]
-pub struct Drawn {
-    /// 0 if drawn, else the number of the first refusal of 1 to 10 that applies; then neither slice was touched.
-    pub number: u32,
-    /// How many points there are; 0 with refusals 1 to 8.
-    pub points: u32,
-    /// How many triangles there are; 0 with refusals 1 to 8.
-    pub triangles: u32,
-}
-
-/// Checks a survey by itself: 0, or the number of the first refusal of 1 to 7 that applies.
-pub fn check(cells: &[u8], corners: &[u8]) -> u32 {
-    // Sound: both slices are lent for the call, and every read inside them is proved.
-    unsafe { exported::clearance_check(cells.as_ptr(), cells.len(), corners.as_ptr(), corners.len()) }
-}
-
-/// The edge enquiry: the edge on an axis (0 to 2) from a lower end on, of a length; or the number of the first refusal of 1 to 8 or 11 that applies.
+/// Asks about the edge of some cell that runs along an axis (0 to 2 for x, y, z) from its lower end (x, y, z) over a length.
+///
+/// ```
+/// use clearance::{enquire, Edge, Refusal};
+///
+/// let cells = std::fs::read("../../examples/twin/cells")?;
+/// let corners = std::fs::read("../../examples/twin/corners")?;
+/// let edge = enquire(&cells, &corners, 0.0, 0, [256, 512, 512], 256)?;
+/// assert_eq!(edge, Edge::Crossing { number: 1, place: [384.0, 512.0, 512.0] });
+/// assert_eq!(enquire(&cells, &corners, 0.0, 0, [0, 512, 512], 512), Ok(Edge::Even));
+/// assert_eq!(enquire(&cells, &corners, 0.0, 3, [0, 0, 0], 512), Err(Refusal::NoEdge));
+/// # Ok::<(), Box<dyn std::error::Error>>(())
+/// ```
+///
+/// # Errors
+///
+/// The first refusal of 1 to 8 that applies; else [`Refusal::NoEdge`] where no cell has this edge.
 pub fn enquire(
     cells: &[u8],
     corners: &[u8],
@@ -41,54 +94,106 @@ pub fn enquire(
     axis: u32,
     lower_end: [u32; 3],
     length: u32,
-) -> Result<Edge, u32> {
-    let [x, y, z] = lower_end;
-    // Sound: as in `check`; the reply is plain numbers.
-    let reply = unsafe {
-        exported::clearance_enquire(
-            cells.as_ptr(),
-            cells.len(),
-            corners.as_ptr(),
-            corners.len(),
-            clearance,
-            axis,
-            x,
-            y,
-            z,
-            length,
-        )
-    };
-    match reply {
-        exported::Reply { number: 0, crossing: 0, .. } => Ok(Edge::Even),
-        exported::Reply { number: 0, point, x, y, z, .. } => {
-            Ok(Edge::Crossing { number: point, place: [x, y, z] })
-        }
-        refused => Err(refused.number),
-    }
+) -> Result<Edge, Refusal> {
+    let reply = exported::enquire(cells, corners, clearance, axis, lower_end, length);
+    passed(reply.number)?;
+    Ok(match reply.crossing {
+        0 => Edge::Even,
+        _ => Edge::Crossing { number: reply.point, place: [reply.x, reply.y, reply.z] },
+    })
 }
 
-/// Draws the surface of a survey at a clearance: three floats a point and three point numbers a triangle, from the front of each slice on. Elements
-/// past the last are untouched.
+/// Draws the surface of a survey at a clearance into lent slices: three floats (x, y, z) a point and three point numbers a triangle, from the front
+/// of each slice on. Elements past the last are untouched.
+///
+/// [`count`] tells beforehand how long the slices must be, [`draw_to_vec`] draws into vectors of its own.
+///
+/// ```
+/// use clearance::{draw, Counts, Refusal};
+///
+/// let cells = std::fs::read("../../examples/twin/cells")?;
+/// let corners = std::fs::read("../../examples/twin/corners")?;
+/// let (mut points, mut triangles) = ([0.0; 12], [0; 12]);
+/// let counts = draw(&cells, &corners, 0.0, &mut points, &mut triangles)?;
+/// assert_eq!(counts, Counts { points: 4, triangles: 4 });
+/// assert_eq!(points[..3], [128.0, 512.0, 512.0]);
+/// assert_eq!(triangles, [0, 1, 3, 0, 2, 1, 0, 3, 2, 1, 2, 3]);
+///
+/// let refused = draw(&cells, &corners, 0.0, &mut points, &mut triangles[..11]).unwrap_err();
+/// assert_eq!(refused.refusal, Refusal::TriangleSlice);
+/// assert_eq!(refused.counts, counts);
+/// # Ok::<(), Box<dyn std::error::Error>>(())
+/// ```
+///
+/// # Errors
+///
+/// The first refusal of 1 to 10 that applies; then neither slice was touched. With [`Refusal::PointSlice`] and [`Refusal::TriangleSlice`] come the
+/// counts that the drawing needs.
 pub fn draw(
     cells: &[u8],
     corners: &[u8],
     clearance: f32,
     points: &mut [f32],
     triangles: &mut [u32],
-) -> Drawn {
-    // Sound: all slices are lent for the call, and every read and write inside them is proved.
-    let exported::Counts { number, points, triangles } = unsafe {
-        exported::clearance_draw(
-            cells.as_ptr(),
-            cells.len(),
-            corners.as_ptr(),
-            corners.len(),
-            clearance,
-            points.as_mut_ptr(),
-            points.len(),
-            triangles.as_mut_ptr(),
-            triangles.len(),
-        )
-    };
-    Drawn { number, points, triangles }
+) -> Result<Counts, Refused> {
+    let exported::Counts { number, points, triangles } =
+        exported::draw(cells, corners, clearance, points, triangles);
+    let counts = Counts { points, triangles };
+    passed(number).map(|()| counts).map_err(|refusal| Refused { refusal, counts })
+}
+
+/// Counts the points and triangles of a drawing without writing it down: how long lent slices must be.
+///
+/// ```
+/// let cells = std::fs::read("../../examples/twin/cells")?;
+/// let corners = std::fs::read("../../examples/twin/corners")?;
+/// let counts = clearance::count(&cells, &corners, 0.0)?;
+/// assert_eq!((counts.points, counts.triangles), (4, 4));
+/// assert_eq!((counts.point_elements(), counts.triangle_elements()), (12, 12));
+/// # Ok::<(), Box<dyn std::error::Error>>(())
+/// ```
+///
+/// # Errors
+///
+/// The first refusal of 1 to 8 that applies.
+pub fn count(cells: &[u8], corners: &[u8], clearance: f32) -> Result<Counts, Refusal> {
+    match draw(cells, corners, clearance, &mut [], &mut []) {
+        Ok(counts) => Ok(counts),
+        Err(Refused { refusal: Refusal::PointSlice | Refusal::TriangleSlice, counts }) => Ok(counts),
+        Err(Refused { refusal, .. }) => Err(refusal),
+    }
+}
+
+/// Draws the surface of a survey at a clearance into vectors that are exactly long enough.
+///
+/// ```
+/// let cells = std::fs::read("../../examples/twin/cells")?;
+/// let corners = std::fs::read("../../examples/twin/corners")?;
+/// let mesh = clearance::draw_to_vec(&cells, &corners, 0.0)?;
+/// assert_eq!(mesh.points[1], [384.0, 512.0, 512.0]);
+/// assert_eq!(mesh.triangles, [[0, 1, 3], [0, 2, 1], [0, 3, 2], [1, 2, 3]]);
+/// # Ok::<(), Box<dyn std::error::Error>>(())
+/// ```
+///
+/// # Errors
+///
+/// The first refusal of 1 to 8 that applies.
+pub fn draw_to_vec(cells: &[u8], corners: &[u8], clearance: f32) -> Result<Mesh, Refusal> {
+    let counts = count(cells, corners, clearance)?;
+    let mut points = vec![[0.0; 3]; counts.points as usize];
+    let mut triangles = vec![[0; 3]; counts.triangles as usize];
+    if !points.is_empty() {
+        draw(cells, corners, clearance, points.as_flattened_mut(), triangles.as_flattened_mut())?;
+    }
+    Ok(Mesh { points, triangles })
+}
+
+/// What a returned number says: 0 that nothing is refused.
+fn passed(number: u32) -> Result<(), Refusal> {
+    match number {
+        0 => Ok(()),
+        refused => {
+            Err(Refusal::from_number(refused).expect("the library returns 0 or a number of the table"))
+        }
+    }
 }

@@ -1,10 +1,13 @@
 //! The compiled check against the independent Rust drawing's, on lawful and damaged tables. Each failure names the seed that makes the survey again.
 
+mod number;
+
+use number::number;
 use surveys::{damage, document, generate, Survey};
 
 fn assert_same(survey: &Survey, what: &str) -> u32 {
     let Survey { cells, corners, .. } = survey;
-    let number = clearance::check(cells, corners);
+    let number = number(clearance::check(cells, corners));
     assert_eq!(number, drawing::check(cells, corners), "{what}");
     number
 }

@@ -1,7 +1,11 @@
 //! The compiled drawing against the independent Rust drawing, bit for bit, with guard elements around both slices; and demand 3 counted on what came
 //! back. Each failure names the seed that makes the survey again. `CLEARANCE_SMALL` and `CLEARANCE_LARGE` set how many random surveys are drawn.
 
-use clearance::Drawn;
+mod number;
+
+use clearance::{Counts, Refused};
+use drawing::Drawn;
+use number::number;
 use surveys::{closing, damage, document, generate, Survey};
 
 /// What stands in the slices before, and around them.
@@ -31,7 +35,13 @@ fn drawn(survey: &Survey, points: usize, triangles: usize, what: &str) -> Slices
         numbers.iter().enumerate().all(|(at, &n)| n == NUMBER || !untouched(at, triangles)),
         "{what}: numbers around the slice"
     );
-    (result, floats[lent_floats].to_vec(), numbers[lent_numbers].to_vec())
+    (numbers_of(result), floats[lent_floats].to_vec(), numbers[lent_numbers].to_vec())
+}
+
+/// A result as the numbers that document 01 has it return.
+fn numbers_of(result: Result<Counts, Refused>) -> Drawn {
+    let Counts { points, triangles } = result.unwrap_or_else(|refused| refused.counts);
+    Drawn { number: number(result), points, triangles }
 }
 
 /// Draws with both drawings into slices of these lengths; result and slices must be the same bits.
@@ -40,7 +50,6 @@ fn assert_same(survey: &Survey, points: usize, triangles: usize, what: &str) -> 
     let (mut expected_floats, mut expected_numbers) = (vec![FLOAT; points], vec![NUMBER; triangles]);
     let Survey { cells, corners, clearance } = survey;
     let expected = drawing::draw(cells, corners, *clearance, &mut expected_floats, &mut expected_numbers);
-    let expected = Drawn { number: expected.number, points: expected.points, triangles: expected.triangles };
     assert_eq!(result, expected, "{what}: result");
     assert!(
         floats.iter().map(|x| x.to_bits()).eq(expected_floats.iter().map(|x| x.to_bits())),
@@ -63,6 +72,7 @@ fn assert_drawn(survey: &Survey, check: ClosingCheck, what: &str) {
     let (result, floats, numbers) = assert_same(survey, points, triangles, what);
     assert_eq!(result.number, 0, "{what}");
     assert_eq!(check(survey, &floats, &numbers), Ok(()), "{what}: closing");
+    assert_vectors(survey, &floats, &numbers, what);
     if points > 0 {
         assert_eq!(assert_same(survey, points - 1, triangles, what).0.number, 9, "{what}");
         assert_eq!(assert_same(survey, points, triangles - 1, what).0.number, 10, "{what}");
@@ -70,16 +80,30 @@ fn assert_drawn(survey: &Survey, check: ClosingCheck, what: &str) {
     assert_same(survey, points + 4, triangles + 7, what);
 }
 
-fn number(variable: &str, otherwise: u64) -> u64 {
+/// Counting, and drawing into vectors, give what was drawn into slices.
+fn assert_vectors(survey: &Survey, floats: &[f32], numbers: &[u32], what: &str) {
+    let Survey { cells, corners, clearance } = survey;
+    let counts = clearance::count(cells, corners, *clearance).expect(what);
+    assert_eq!(counts.point_elements(), floats.len(), "{what}");
+    assert_eq!(counts.triangle_elements(), numbers.len(), "{what}");
+    let mesh = clearance::draw_to_vec(cells, corners, *clearance).expect(what);
+    assert!(
+        mesh.points.concat().iter().map(|x| x.to_bits()).eq(floats.iter().map(|x| x.to_bits())),
+        "{what}: points in a vector"
+    );
+    assert_eq!(mesh.triangles.concat(), numbers, "{what}: triangles in a vector");
+}
+
+fn how_many(variable: &str, otherwise: u64) -> u64 {
     std::env::var(variable).map_or(otherwise, |text| text.parse().expect("a number"))
 }
 
 fn small() -> u64 {
-    number("CLEARANCE_SMALL", 5_000)
+    how_many("CLEARANCE_SMALL", 5_000)
 }
 
 fn large() -> u64 {
-    number("CLEARANCE_LARGE", 1_000)
+    how_many("CLEARANCE_LARGE", 1_000)
 }
 
 #[test]
@@ -111,11 +135,31 @@ fn surveys_of_every_size() {
     }
 }
 
+/// Six times the space inside a drawing that is closed everywhere.
+fn six_volumes(survey: &Survey) -> f64 {
+    let Survey { cells, corners, clearance } = survey;
+    let mesh = clearance::draw_to_vec(cells, corners, *clearance).expect("drawn");
+    let determinant = |triangle: &[u32; 3]| {
+        let [a, b, c] = triangle.map(|point| mesh.points[point as usize].map(f64::from));
+        let minor = |i: usize, k: usize| b[i] * c[k] - b[k] * c[i];
+        a[0] * minor(1, 2) + a[1] * minor(2, 0) + a[2] * minor(0, 1)
+    };
+    mesh.triangles.iter().map(determinant).sum()
+}
+
+/// Triangles turn counter-clockwise seen from the dry side, so that the wet space counts as positive. It may be nothing, where every wet sounding is
+/// the clearance.
 #[test]
 fn surveys_with_a_dry_outside_close_everywhere() {
+    let mut spaces = 0;
     for seed in 0..large() {
-        assert_drawn(&generate::interior(seed), closing::check_everywhere, &format!("interior, seed {seed}"));
+        let survey = generate::interior(seed);
+        assert_drawn(&survey, closing::check_everywhere, &format!("interior, seed {seed}"));
+        let volumes = six_volumes(&survey);
+        assert!(volumes >= -1.0e-3, "interior, seed {seed}: {volumes}");
+        spaces += u64::from(volumes > 1.0);
     }
+    assert!(spaces > large() / 4, "{spaces} with space inside");
 }
 
 #[test]
@@ -132,7 +176,11 @@ fn loops_of_many_hundred_points() {
 #[test]
 fn damaged_surveys_touch_nothing() {
     for seed in 0..small() {
-        assert_same(&damage::damaged(seed).survey, 40, 40, &format!("damaged, seed {seed}"));
+        let survey = damage::damaged(seed).survey;
+        let (refused, ..) = assert_same(&survey, 40, 40, &format!("damaged, seed {seed}"));
+        let Survey { cells, corners, clearance } = &survey;
+        let in_vectors = number(clearance::draw_to_vec(cells, corners, *clearance));
+        assert_eq!(in_vectors, refused.number, "damaged, seed {seed}: in vectors");
         assert_same(&damage::corrupted(seed), 40, 40, &format!("corrupted, seed {seed}"));
     }
 }
@@ -141,11 +189,12 @@ fn damaged_surveys_touch_nothing() {
 fn a_stack_of_512_kib_is_enough() {
     let surveys = [generate::long_loop(0), document::full()];
     let thread = std::thread::Builder::new().stack_size(512 * 1024);
-    let drawing = thread.spawn(move || {
+    let calls = thread.spawn(move || {
         for Survey { cells, corners, clearance } in &surveys {
-            let (mut points, mut triangles) = (vec![FLOAT; 50_000], vec![NUMBER; 150_000]);
-            assert_eq!(clearance::draw(cells, corners, *clearance, &mut points, &mut triangles).number, 0);
+            clearance::check(cells, corners).expect("checked");
+            clearance::enquire(cells, corners, *clearance, 0, [0; 3], 1_024).expect("answered");
+            clearance::draw_to_vec(cells, corners, *clearance).expect("drawn");
         }
     });
-    drawing.expect("a thread").join().expect("drawn");
+    calls.expect("a thread").join().expect("returned");
 }

@@ -1,42 +1,46 @@
 //! The compiled enquiry against the independent Rust drawing's, bit for bit: on every edge and on many that no cell has, and on places of random
 //! soundings. Each failure names the seed that makes the survey again.
 
-use clearance::Edge;
-use surveys::{damage, document, generate, Survey};
+mod number;
+
+use clearance::{Edge, Refusal};
+use number::number;
+use surveys::{damage, document, generate, plain, Survey};
 
 /// The answer as numbers, floats by their bits.
-fn numbers(answer: Result<Edge, u32>) -> [u32; 5] {
+fn numbers(answer: Result<Edge, Refusal>) -> [u32; 5] {
     match answer {
-        Err(number) => [number, 0, 0, 0, 0],
-        Ok(Edge::Even) => [0, 0, 0, 0, 0],
-        Ok(Edge::Crossing { number, place: [x, y, z] }) => {
-            [0, 1 + number, x.to_bits(), y.to_bits(), z.to_bits()]
-        }
+        Err(_) => [number(answer), 0, 0, 0, 0],
+        Ok(Edge::Even) => [0; 5],
+        Ok(Edge::Crossing { number, place }) => crossing(number, place),
     }
 }
 
-fn drawings(answer: Result<drawing::Edge, u32>) -> Result<Edge, u32> {
-    answer.map(|edge| match edge {
-        drawing::Edge::Even => Edge::Even,
-        drawing::Edge::Crossing { number, place } => Edge::Crossing { number, place },
-    })
+/// The same of the independent drawing's answer.
+fn expected_numbers(answer: Result<drawing::Edge, u32>) -> [u32; 5] {
+    match answer {
+        Err(number) => [number, 0, 0, 0, 0],
+        Ok(drawing::Edge::Even) => [0; 5],
+        Ok(drawing::Edge::Crossing { number, place }) => crossing(number, place),
+    }
+}
+
+fn crossing(number: u32, [x, y, z]: [f32; 3]) -> [u32; 5] {
+    [0, 1 + number, x.to_bits(), y.to_bits(), z.to_bits()]
 }
 
 fn assert_same(survey: &Survey, axis: u32, lower_end: [u32; 3], length: u32, what: &str) -> [u32; 5] {
     let Survey { cells, corners, clearance } = survey;
     let [x, y, z] = lower_end;
     let answer = numbers(clearance::enquire(cells, corners, *clearance, axis, lower_end, length));
-    let expected = numbers(drawings(drawing::enquire(cells, corners, *clearance, axis, x, y, z, length)));
+    let expected = expected_numbers(drawing::enquire(cells, corners, *clearance, axis, x, y, z, length));
     assert_eq!(answer, expected, "{what}: axis {axis}, lower end {lower_end:?}, length {length}");
     answer
 }
 
 /// The places of the corner records.
 fn places(survey: &Survey) -> impl Iterator<Item = [u32; 3]> + '_ {
-    survey
-        .corners
-        .chunks_exact(10)
-        .map(|record| [0, 2, 4].map(|at| u32::from(u16::from_le_bytes([record[at], record[at + 1]]))))
+    plain::corners(&survey.corners).map(|(place, _)| place.map(u32::from))
 }
 
 #[test]

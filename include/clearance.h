@@ -1,0 +1,123 @@
+/*
+ * Clearance surfaces over a lock survey: the proved library for C and C++.
+ *
+ * A survey is a cell table (an octree) and a corner table (a sounding at every corner of every cell). At a clearance the surface between wet and dry
+ * corners is drawn as points on the octree's edges and triangles between them. The calls are those of document 01, the scope document; what they
+ * return, and what they write, is proved equal to its rules for every input.
+ *
+ * BUILDING
+ *
+ *     rt staticlib clearance
+ *     cc -I include program.c target/staticlib/libclearance.a
+ *
+ * The archive is for x86-64 Linux and needs of the C library only memset and its like. examples/c/draw.c is a whole program.
+ *
+ * THE TABLES
+ *
+ * Both are records of one size without a header, little-endian.
+ *
+ *   cell      4 bytes   0 for a leaf, else the record number of the first of eight children in a row
+ *   corner   10 bytes   x, y, z (16 bits unsigned each), then the sounding (IEEE 754 binary32)
+ *
+ * The box runs from 0 to 1,024 on x, y and z. Cell record 0 is the whole box, of depth 0; a cell of depth 10 is not split. The child in place i (0 to 7)
+ * is in the upper half of x if bit 0 of i is set, of y for bit 1, of z for bit 2. If k split records come before a split record, its entry is 1 + 8k and
+ * greater than its own record number. The table has 1 + 8 * (number of split records) records, at most 2,049.
+ *
+ * Corner records rise strictly by z, then y, then x. There is one for every corner of every cell and none else, at most 4,872. A corner is wet if its
+ * sounding is at least the clearance, else dry.
+ *
+ * WHAT THE CALLER LENDS
+ *
+ * A slice passes as a pointer and a number of elements (not bytes). It is lent for the call: nothing of it is kept, and it stays the caller's to free.
+ *
+ *   - Cell and corner tables are read only, may lie at any address, and may overlap each other.
+ *   - Point and triangle slices are aligned to 4 bytes and overlap no other slice.
+ *   - A slice of 0 elements may have any pointer, NULL too: it is not followed.
+ *   - Nobody else writes to a slice while the call runs.
+ *
+ * No bytes in the tables and no clearance, not a number among them, can make a call read or write outside what it was lent, or run on without end.
+ *
+ * A call allocates nothing and keeps nothing, so any number of threads may call at once. It needs less than 512 KiB of stack. Arithmetic is that of the
+ * thread: it must be as a C program starts, rounding to nearest and with subnormal numbers kept, or what is drawn may differ. (GCC's -ffast-math, given
+ * when a program is linked, makes it start otherwise.)
+ *
+ * REFUSALS
+ *
+ * What can't be drawn is refused by a number, enum clearance_refusal below. Checks run in rising number, and the first that applies is returned. A
+ * refused call has written nothing.
+ */
+#ifndef CLEARANCE_H
+#define CLEARANCE_H
+
+#include <stddef.h>
+#include <stdint.h>
+
+#ifdef __cplusplus
+extern "C" {
+#endif
+
+/* The longest tables that are not refused, in bytes. */
+#define CLEARANCE_MOST_CELL_BYTES 8196
+#define CLEARANCE_MOST_CORNER_BYTES 48720
+
+/* The numbers returned: 0 if nothing is refused, else why. */
+enum clearance_refusal {
+    CLEARANCE_CELL_TABLE = 1, /* the cell table is empty, not whole records, or over 8,196 bytes */
+    CLEARANCE_CORNER_TABLE = 2, /* the corner table is empty, not whole records, or over 48,720 bytes */
+    CLEARANCE_CELL_ENTRY = 3, /* a cell entry or the record count breaks the rule of the cell table */
+    CLEARANCE_TOO_DEEP = 4, /* a cell of depth 10 is split */
+    CLEARANCE_CORNER_ORDER = 5, /* corner records don't rise strictly */
+    CLEARANCE_CORNER_SET = 6, /* a cell's corner is missing, or a record is no cell's corner */
+    CLEARANCE_SOUNDING = 7, /* a sounding is not finite or beyond ±1,048,576 */
+    CLEARANCE_CLEARANCE = 8, /* the clearance is not finite or beyond ±1,048,576 */
+    CLEARANCE_POINT_SLICE = 9, /* the point slice is too short */
+    CLEARANCE_TRIANGLE_SLICE = 10, /* the triangle slice is too short */
+    CLEARANCE_NO_EDGE = 11 /* no cell has this edge */
+};
+
+/*
+ * Checks a survey by itself. Returns 0, or the first refusal of 1 to 7 that applies.
+ */
+uint32_t clearance_check(const uint8_t *cells, size_t cells_length, const uint8_t *corners, size_t corners_length);
+
+/* What the enquiry says of an edge. */
+struct clearance_reply {
+    uint32_t number; /* 0, or the first refusal of 1 to 8 or 11 that applies; then all else is 0 */
+    uint32_t crossing; /* 1 if one end is wet and one is dry; 0 if the edge is even, and then all else is 0 */
+    uint32_t point; /* the number of the edge's point: its place among the points of a drawing, from 0 */
+    float x; /* where the point is */
+    float y;
+    float z;
+};
+
+/*
+ * Asks about the edge of some cell that runs along an axis (0, 1, 2 for x, y, z) from its lower end (x, y, z) over a length. If it is divided and crossing,
+ * its point is that of the half that is crossing, and so on down. Numbers that are no cell's edge are refused (11).
+ */
+struct clearance_reply clearance_enquire(const uint8_t *cells, size_t cells_length, const uint8_t *corners, size_t corners_length,
+    float clearance, uint32_t axis, uint32_t x, uint32_t y, uint32_t z, uint32_t length);
+
+/* What drawing returns. */
+struct clearance_counts {
+    uint32_t number; /* 0 if drawn, else the first refusal of 1 to 10 that applies */
+    uint32_t points; /* how many points and triangles the drawing has, not elements; with refusals 1 to 8 both are 0, */
+    uint32_t triangles; /* with 9 and 10 both are what the drawing needs */
+};
+
+/*
+ * Draws the surface of a survey at a clearance, from the front of both slices on: for each point x, y and z, for each triangle the numbers of its three
+ * points, counted from 0. So `points` must have 3 elements for each point and `triangles` 3 for each triangle. Elements past the last are untouched.
+ *
+ * Points rise by the axis of their edge (x, y, z), then by its lower end's z, y, x. Triangles come by the record number of their leaf, and turn
+ * counter-clockwise seen from the dry side.
+ *
+ * To learn how long the slices must be, call with two slices of 0 elements: the result is 9 or 10 with both counts, or 0 where there is nothing to draw.
+ */
+struct clearance_counts clearance_draw(const uint8_t *cells, size_t cells_length, const uint8_t *corners, size_t corners_length,
+    float clearance, float *points, size_t points_length, uint32_t *triangles, size_t triangles_length);
+
+#ifdef __cplusplus
+}
+#endif
+
+#endif

@@ -1,0 +1,87 @@
+//! What the calls hand back.
+
+use std::error::Error;
+use std::fmt;
+
+use crate::Refusal;
+
+/// What the enquiry says of an edge.
+#[derive(Clone, Copy, Debug, PartialEq)]
+pub enum Edge {
+    /// Both ends are wet, or both are dry.
+    Even,
+    /// One end is wet and one is dry.
+    Crossing {
+        /// The number of the edge's crossing point: its place among the points of a drawing.
+        number: u32,
+        /// Where the point is: x, y and z.
+        place: [f32; 3],
+    },
+}
+
+/// How many points and triangles a drawing has. Each takes three elements of its slice.
+#[derive(Clone, Copy, Debug, Default, PartialEq, Eq, Hash)]
+pub struct Counts {
+    /// The number of points.
+    pub points: u32,
+    /// The number of triangles.
+    pub triangles: u32,
+}
+
+impl Counts {
+    /// How many elements of a point slice the points take.
+    pub const fn point_elements(self) -> usize {
+        3 * self.points as usize
+    }
+
+    /// How many elements of a triangle slice the triangles take.
+    pub const fn triangle_elements(self) -> usize {
+        3 * self.triangles as usize
+    }
+}
+
+/// A drawing that was refused. Neither lent slice was touched.
+///
+/// ```
+/// let cells = std::fs::read("../../examples/twin/cells")?;
+/// let corners = std::fs::read("../../examples/twin/corners")?;
+/// let refused = clearance::draw(&cells, &corners, 0.0, &mut [], &mut []).unwrap_err();
+/// assert_eq!(refused.to_string(), "the point slice is too short: the drawing has 4 points and 4 triangles");
+/// # Ok::<(), std::io::Error>(())
+/// ```
+#[derive(Clone, Copy, Debug, PartialEq, Eq, Hash)]
+pub struct Refused {
+    /// Why.
+    pub refusal: Refusal,
+    /// With [`Refusal::PointSlice`] and [`Refusal::TriangleSlice`] the counts that the drawing needs; with every other refusal both 0.
+    pub counts: Counts,
+}
+
+impl fmt::Display for Refused {
+    fn fmt(&self, text: &mut fmt::Formatter<'_>) -> fmt::Result {
+        let Refused { refusal, counts: Counts { points, triangles } } = self;
+        match refusal {
+            Refusal::PointSlice | Refusal::TriangleSlice => {
+                write!(text, "{refusal}: the drawing has {points} points and {triangles} triangles")
+            }
+            _ => refusal.fmt(text),
+        }
+    }
+}
+
+impl Error for Refused {}
+
+impl From<Refused> for Refusal {
+    fn from(refused: Refused) -> Refusal {
+        refused.refusal
+    }
+}
+
+/// A drawing in vectors of its own.
+#[derive(Clone, Debug, Default, PartialEq)]
+pub struct Mesh {
+    /// x, y and z of each point, by point number.
+    pub points: Vec<[f32; 3]>,
+    /// The point numbers of each triangle, in the order of document 01. Triangles turn counter-clockwise seen from the dry side.
+    pub triangles: Vec<[u32; 3]>,
+}

@@ -1,0 +1,94 @@
+//! The refusals of document 01's table, by name, number and words.
+
+use std::fmt;
+
+/// Why a survey, a clearance, a lent slice or an edge is refused. Checks run in rising number, and the first that applies is given.
+///
+/// ```
+/// use clearance::Refusal;
+///
+/// let refusal = clearance::check(&[], &[]).unwrap_err();
+/// assert_eq!(refusal, Refusal::CellTable);
+/// assert_eq!(refusal.number(), 1);
+/// assert_eq!(refusal.to_string(), "the cell table is empty, not whole records, or over 8,196 bytes");
+/// ```
+#[derive(Clone, Copy, Debug, PartialEq, Eq, PartialOrd, Ord, Hash)]
+#[repr(u32)]
+pub enum Refusal {
+    /// The cell table is empty, not whole records (4 bytes each), or over 8,196 bytes.
+    CellTable = 1,
+    /// The corner table is empty, not whole records (10 bytes each), or over 48,720 bytes.
+    CornerTable = 2,
+    /// A cell entry or the record count breaks the rule of the cell table.
+    CellEntry = 3,
+    /// A cell of depth 10 is split.
+    TooDeep = 4,
+    /// Corner records don't rise strictly by z, then y, then x.
+    CornerOrder = 5,
+    /// A cell's corner is missing, or a record is no cell's corner.
+    CornerSet = 6,
+    /// A sounding is not finite or beyond ±1,048,576.
+    Sounding = 7,
+    /// The clearance is not finite or beyond ±1,048,576.
+    Clearance = 8,
+    /// The point slice is too short.
+    PointSlice = 9,
+    /// The triangle slice is too short.
+    TriangleSlice = 10,
+    /// No cell has the edge that was asked about.
+    NoEdge = 11,
+}
+
+impl Refusal {
+    /// All refusals, by rising number.
+    pub const ALL: [Refusal; 11] = [
+        Refusal::CellTable,
+        Refusal::CornerTable,
+        Refusal::CellEntry,
+        Refusal::TooDeep,
+        Refusal::CornerOrder,
+        Refusal::CornerSet,
+        Refusal::Sounding,
+        Refusal::Clearance,
+        Refusal::PointSlice,
+        Refusal::TriangleSlice,
+        Refusal::NoEdge,
+    ];
+
+    /// The refusal's number in document 01's table: 1 to 11.
+    pub const fn number(self) -> u32 {
+        self as u32
+    }
+
+    /// The refusal of this number; `None` if the table has none.
+    ///
+    /// ```
+    /// use clearance::Refusal;
+    ///
+    /// assert_eq!(Refusal::from_number(11), Some(Refusal::NoEdge));
+    /// assert_eq!(Refusal::from_number(0), None);
+    /// ```
+    pub fn from_number(number: u32) -> Option<Refusal> {
+        Refusal::ALL.into_iter().find(|refusal| refusal.number() == number)
+    }
+}
+
+impl fmt::Display for Refusal {
+    fn fmt(&self, text: &mut fmt::Formatter<'_>) -> fmt::Result {
+        text.write_str(match self {
+            Refusal::CellTable => "the cell table is empty, not whole records, or over 8,196 bytes",
+            Refusal::CornerTable => "the corner table is empty, not whole records, or over 48,720 bytes",
+            Refusal::CellEntry => "a cell entry or the record count breaks the rule of the cell table",
+            Refusal::TooDeep => "a cell of depth 10 is split",
+            Refusal::CornerOrder => "corner records don't rise strictly",
+            Refusal::CornerSet => "a cell's corner is missing, or a record is no cell's corner",
+            Refusal::Sounding => "a sounding is not finite or beyond ±1,048,576",
+            Refusal::Clearance => "the clearance is not finite or beyond ±1,048,576",
+            Refusal::PointSlice => "the point slice is too short",
+            Refusal::TriangleSlice => "the triangle slice is too short",
+            Refusal::NoEdge => "no cell has this edge",
+        })
+    }
+}
+
+impl std::error::Error for Refusal {}

@@ -1,0 +1,203 @@
+//! The boundary of the compiled calls: slices that are exactly as long as they are said to be, on the heap (for valgrind to watch) or against an
+//! inaccessible page, on lawful and damaged surveys. Each failure names the seed that makes the survey again. `CLEARANCE_BOUNDARY` sets how many
+//! surveys of each kind.
+
+mod guarded;
+#[path = "../number/mod.rs"]
+mod number;
+
+use std::ops::{Deref, DerefMut};
+use std::os::unix::process::ExitStatusExt;
+use std::process::{Command, ExitStatus};
+
+use clearance::{Counts, Edge, Refusal, Refused};
+use guarded::{Guarded, Side};
+use number::number;
+use surveys::{damage, document, generate, plain, refusals, Survey};
+
+/// What stands in the slices before.
+const FLOAT: f32 = -7.5;
+const NUMBER: u32 = 0xdead_beef;
+
+/// Where slices lie.
+#[derive(Clone, Copy, Debug)]
+enum Lender {
+    Heap,
+    Page(Side),
+}
+
+impl Lender {
+    /// A table, for reading only.
+    fn table(self, bytes: &[u8]) -> Box<dyn Deref<Target = [u8]>> {
+        match self {
+            Lender::Heap => Box::new(Box::<[u8]>::from(bytes)),
+            Lender::Page(side) => Box::new(Guarded::new(bytes, side).sealed()),
+        }
+    }
+
+    /// A slice of so many equal elements, to be written to.
+    fn slice<T: Copy + 'static>(self, element: T, count: usize) -> Box<dyn DerefMut<Target = [T]>> {
+        let elements = vec![element; count].into_boxed_slice();
+        match self {
+            Lender::Heap => Box::new(elements),
+            Lender::Page(side) => Box::new(Guarded::new(&elements, side)),
+        }
+    }
+}
+
+/// A survey whose tables a lender holds.
+struct Lent<'a> {
+    lender: Lender,
+    cells: Box<dyn Deref<Target = [u8]>>,
+    corners: Box<dyn Deref<Target = [u8]>>,
+    clearance: f32,
+    what: &'a str,
+}
+
+impl Lent<'_> {
+    /// Draws into slices of these lengths. A refused drawing must leave both as they were.
+    fn draw(&self, points: usize, triangles: usize) -> (Result<Counts, Refused>, Vec<f32>) {
+        let mut floats = self.lender.slice(FLOAT, points);
+        let mut numbers = self.lender.slice(NUMBER, triangles);
+        let result = clearance::draw(&self.cells, &self.corners, self.clearance, &mut floats, &mut numbers);
+        let untouched = floats.iter().all(|&x| x == FLOAT) && numbers.iter().all(|&n| n == NUMBER);
+        assert!(result.is_ok() || untouched, "{}: refused and touched", self.what);
+        (result, floats.to_vec())
+    }
+
+    /// Draws into slices that are exactly long enough, one element too short, and empty. Gives back the points.
+    fn assert_drawn(&self) -> Vec<f32> {
+        let counts = self.draw(0, 0).0.unwrap_or_else(|refused| refused.counts);
+        let (points, triangles) = (counts.point_elements(), counts.triangle_elements());
+        if points > 0 {
+            let refused = |refusal| Err(Refused { refusal, counts });
+            assert_eq!(self.draw(points - 1, triangles).0, refused(Refusal::PointSlice), "{}", self.what);
+            assert_eq!(self.draw(points, triangles - 1).0, refused(Refusal::TriangleSlice), "{}", self.what);
+        }
+        let (result, floats) = self.draw(points, triangles);
+        assert_eq!(result, Ok(counts), "{}", self.what);
+        floats
+    }
+
+    /// Asks, at a few corners, about an edge of each length, most of which no cell has. The answers must be of the points drawn; gives back how many
+    /// were crossing.
+    fn assert_answered(&self, drawn: &[f32]) -> usize {
+        let places: Vec<_> = plain::corners(&self.corners).map(|(place, _)| place.map(u32::from)).collect();
+        let few = places.iter().enumerate().step_by(1 + places.len() / 3);
+        let asked = few.flat_map(|(n, &place)| (0..=11).map(move |level| (n as u32 % 4, place, 1 << level)));
+        asked.filter(|&(axis, place, length)| self.is_crossing(drawn, axis, place, length)).count()
+    }
+
+    fn is_crossing(&self, drawn: &[f32], axis: u32, lower_end: [u32; 3], length: u32) -> bool {
+        match clearance::enquire(&self.cells, &self.corners, self.clearance, axis, lower_end, length) {
+            Ok(Edge::Crossing { number, place }) => {
+                assert_eq!(place, drawn[3 * number as usize..][..3], "{}", self.what);
+                true
+            }
+            Ok(Edge::Even) | Err(Refusal::NoEdge) => false,
+            Err(refusal) => panic!("{}: {refusal}", self.what),
+        }
+    }
+
+    /// All calls refuse the survey alike.
+    fn assert_refused(&self, refusal: u32) {
+        let Lent { cells, corners, clearance, what, .. } = self;
+        let answer = clearance::enquire(cells, corners, *clearance, 0, [0; 3], 1_024);
+        assert_eq!(number(answer), refusal, "{what}: enquiry");
+        let (result, _) = self.draw(7, 5);
+        assert_eq!(number(result), refusal, "{what}: drawing");
+        assert_eq!(result.unwrap_or_else(|refused| refused.counts), Counts::default(), "{what}: counts");
+    }
+}
+
+/// Makes all calls with slices that a lender lends. Gives back how many enquiries met a crossing edge.
+fn assert_within(survey: &Survey, lender: Lender, what: &str) -> usize {
+    let Survey { cells, corners, clearance } = survey;
+    let (cells, corners) = (lender.table(cells), lender.table(corners));
+    let lent = Lent { lender, cells, corners, clearance: *clearance, what };
+    let refusal = refusals::first(survey);
+    let by_itself = if refusal == 8 { 0 } else { refusal };
+    assert_eq!(number(clearance::check(&lent.cells, &lent.corners)), by_itself, "{what}: check");
+    if refusal != 0 {
+        lent.assert_refused(refusal);
+        return 0;
+    }
+    lent.assert_answered(&lent.assert_drawn())
+}
+
+fn assert_all_within(lender: Lender) {
+    for example in document::checked() {
+        assert_within(&example.survey, lender, example.name);
+    }
+    assert_within(&generate::long_loop(0), lender, "long loop");
+    let surveys = std::env::var("CLEARANCE_BOUNDARY").map_or(200, |text| text.parse().expect("a number"));
+    let mut crossings = 0;
+    for seed in 0..surveys {
+        let within =
+            |survey, kind| assert_within(&survey, lender, &format!("{lender:?}, {kind}, seed {seed}"));
+        crossings += within(generate::survey(seed), "survey");
+        within(damage::damaged(seed).survey, "damaged");
+        within(damage::corrupted(seed), "corrupted");
+    }
+    assert!(crossings as u64 >= surveys / 10, "{crossings} crossing edges");
+}
+
+#[test]
+fn slices_on_the_heap() {
+    assert_all_within(Lender::Heap);
+}
+
+#[test]
+fn slices_after_an_inaccessible_page() {
+    assert_all_within(Lender::Page(Side::Before));
+}
+
+#[test]
+fn slices_before_an_inaccessible_page() {
+    assert_all_within(Lender::Page(Side::After));
+}
+
+/// Set to the name of a trespass, for the process that commits it.
+const TRESPASS: &str = "CLEARANCE_TRESPASS";
+
+/// Leaves what was lent. This must end the process by a signal, or the tests above show nothing.
+fn commit(trespass: &str) {
+    let survey = document::twin();
+    let side = if trespass == "read before" { Side::Before } else { Side::After };
+    let length = survey.corners.len();
+    let one_short = Guarded::new(&survey.corners[..length - 1], side).sealed();
+    let first = one_short.first();
+    // SAFETY: unsound on purpose. Each leaves its slice by one byte, or writes to what is for reading only.
+    unsafe {
+        let _ = match trespass {
+            "read before" => u32::from(first.sub(1).read_volatile()),
+            "read after" => u32::from(first.add(length - 1).read_volatile()),
+            "write to a table" => {
+                first.cast_mut().write_volatile(0);
+                0
+            }
+            "lend a byte too many" => {
+                number(clearance::check(&survey.cells, std::slice::from_raw_parts(first, length)))
+            }
+            _ => panic!("no such trespass"),
+        };
+    }
+}
+
+fn after_committing(trespass: &str) -> ExitStatus {
+    let this_test = std::env::current_exe().expect("this test");
+    let mut child = Command::new(this_test);
+    child.args(["--exact", "leaving_a_slice_ends_the_process"]).env(TRESPASS, trespass);
+    child.output().expect("a child process").status
+}
+
+#[test]
+fn leaving_a_slice_ends_the_process() {
+    if let Ok(trespass) = std::env::var(TRESPASS) {
+        return commit(&trespass);
+    }
+    const SIGSEGV: i32 = 11;
+    for trespass in ["read before", "read after", "write to a table", "lend a byte too many"] {
+        assert_eq!(after_committing(trespass).signal(), Some(SIGSEGV), "{trespass}");
+    }
+}
