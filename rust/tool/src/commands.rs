@@ -1,0 +1,274 @@
+//! The commands, their help, and the choice between them.
+
+use std::ffi::OsString;
+use std::io::{ErrorKind, Write};
+use std::path::{Path, PathBuf};
+use std::process::ExitCode;
+
+use clearance::{Edge, Mesh};
+use surveys::plain::Plain;
+use surveys::Survey;
+
+use crate::arguments::{number, Arguments};
+use crate::examples;
+use crate::facts;
+use crate::failure::{refused, Failure};
+use crate::files;
+use crate::formats;
+use crate::picture::{self, Scene, Style};
+use crate::svg;
+use crate::view::Vector;
+
+/// What a command prints on standard output, and its exit status.
+struct Printed {
+    text: String,
+    status: u8,
+}
+
+impl From<String> for Printed {
+    fn from(text: String) -> Printed {
+        Printed { text, status: 0 }
+    }
+}
+
+struct Command {
+    name: &'static str,
+    arguments: &'static str,
+    summary: &'static str,
+    help: &'static str,
+    run: fn(Arguments) -> Result<Printed, Failure>,
+}
+
+const COMMANDS: [Command; 8] = [
+    Command {
+        name: "check",
+        arguments: "DIR",
+        summary: "say whether a survey is lawful",
+        help: "Prints 'lawful', or 'refused', the number of the first refusal of 1 to 7 that applies, and its words.\n\
+               Reads cells and corners; the clearance is not looked at. A missing file is an error.",
+        run: check,
+    },
+    Command {
+        name: "draw",
+        arguments: "DIR",
+        summary: "list the points and triangles of the surface",
+        help: "Prints the listing of document 01's drawing program: the counts; a line 'v' for each point with the bits\n\
+               of x, y and z in hexadecimal; a line 't' for each triangle with its point numbers. On refusal prints\n\
+               'refused' and the number, and the words on standard error. There is no limit on points and triangles.\n\
+               A missing file counts as empty, as it does for that program.",
+        run: draw,
+    },
+    Command {
+        name: "enquire",
+        arguments: "DIR AXIS X Y Z LENGTH",
+        summary: "ask about one edge",
+        help: "Asks about the edge along AXIS (x, y, z or 0, 1, 2) from the lower end (X, Y, Z) over LENGTH. Prints 'even',\n\
+               or 'crossing', the point's number and its x, y and z. A missing file is an error.",
+        run: enquire,
+    },
+    Command {
+        name: "info",
+        arguments: "DIR",
+        summary: "count cells, corners, points and triangles; give the volume",
+        help: "Prints the cell records, the greatest depth, the leaves, corners, points and triangles, and whether the\n\
+               surface is closed at the box. If so, prints the volume inside; the whole box has 1073741824. A missing file is\n\
+               an error.",
+        run: info,
+    },
+    Command {
+        name: "obj",
+        arguments: "DIR",
+        summary: "write the surface as Wavefront OBJ",
+        help: "Prints the surface as Wavefront OBJ. Decimal numbers read back as the same binary32. Triangles go\n\
+               counter-clockwise seen from the dry side. A missing file is an error.",
+        run: |arguments| mesh(arguments, formats::obj),
+    },
+    Command {
+        name: "ply",
+        arguments: "DIR",
+        summary: "write the surface as PLY (ascii)",
+        help: "Prints the surface as PLY, ascii 1.0. Decimal numbers read back as the same binary32. Triangles go\n\
+               counter-clockwise seen from the dry side. A missing file is an error.",
+        run: |arguments| mesh(arguments, formats::ply),
+    },
+    Command {
+        name: "render",
+        arguments: "DIR OUT.png|OUT.svg [--turn DEGREES] [--tilt DEGREES] [--edges] [--cells] [--inside] [--near]",
+        summary: "make a picture of the surface",
+        help: "Writes a picture of the surface and the box; the name's end chooses PNG or SVG. Higher places are lighter.\n\
+               --turn DEGREES  turn about the z axis (30); at 0 one looks along y\n\
+               --tilt DEGREES  look from so far above the horizon (35)\n\
+               --edges         show the edges of triangles\n\
+               --cells         show the edges of the cells; the surface hides those behind it\n\
+               --inside        look into the wet space: leave out the sides towards the viewer\n\
+               --near          let the surface fill the picture, and not the box\n\
+               A missing file of the survey is an error. The picture is written over.",
+        run: render,
+    },
+    Command {
+        name: "example",
+        arguments: "[NAME DIR]",
+        summary: "write an example survey, or list the names",
+        help: "Writes the files cells, corners and clearance of the example NAME into DIR, which is made if need be. No file is\n\
+               written over. Without arguments, lists the names.",
+        run: example,
+    },
+];
+
+/// Runs the command that the arguments ask for.
+pub fn run(arguments: Vec<OsString>) -> ExitCode {
+    let printed = chosen(arguments).unwrap_or_else(|failure| {
+        eprintln!("clearance: {failure}");
+        if let Failure::Usage(_) = failure {
+            eprintln!(
+                "'clearance --help' lists the commands, 'clearance COMMAND --help' says what one takes."
+            );
+        }
+        Printed { text: String::new(), status: failure.exit_status() }
+    });
+    let mut out = std::io::stdout().lock();
+    match out.write_all(printed.text.as_bytes()).and_then(|()| out.flush()) {
+        Ok(()) => printed.status.into(),
+        // Whoever reads has read enough, as `head` does.
+        Err(error) if error.kind() == ErrorKind::BrokenPipe => printed.status.into(),
+        Err(error) => {
+            eprintln!("clearance: standard output: {error}");
+            2.into()
+        }
+    }
+}
+
+fn chosen(mut arguments: Vec<OsString>) -> Result<Printed, Failure> {
+    let asks_help = |argument: &OsString| argument == "--help" || argument == "-h";
+    if arguments.is_empty() {
+        return Err(Failure::Usage("a command is missing".into()));
+    }
+    let name = arguments.remove(0);
+    if asks_help(&name) || (name == "help" && arguments.is_empty()) {
+        return Ok(overview().into());
+    }
+    let (name, helps) = if name == "help" { (arguments.remove(0), true) } else { (name, false) };
+    let command = COMMANDS.iter().find(|command| name == command.name);
+    let command =
+        command.ok_or_else(|| Failure::Usage(format!("unknown command {}", name.to_string_lossy())))?;
+    if helps || arguments.iter().any(asks_help) {
+        return Ok(command_help(command).into());
+    }
+    (command.run)(Arguments::new(arguments))
+}
+
+fn overview() -> String {
+    let lines = COMMANDS.iter().map(|command| format!("  {:<8} {}\n", command.name, command.summary));
+    format!(
+        "Checks and draws lock surveys: the clearance surface over an octree of soundings, by the proved library.\n\n\
+         usage: clearance COMMAND ARGUMENTS\n\n{}\n\
+         DIR is a directory with the files cells, corners and clearance (four bytes, a little-endian binary32).\n\
+         'clearance COMMAND --help' says more of a command.\n\
+         Exit status: 0 if all is well, 1 if the survey is refused, 2 if the command line or a file is wrong.\n",
+        lines.collect::<String>()
+    )
+}
+
+fn command_help(command: &Command) -> String {
+    format!("usage: clearance {} {}\n\n{}\n", command.name, command.arguments, command.help)
+}
+
+fn check(arguments: Arguments) -> Result<Printed, Failure> {
+    let [directory] = arguments.finish(["DIR"])?;
+    let (cells, corners) = files::read_tables(Path::new(&directory))?;
+    Ok(match clearance::check(&cells, &corners) {
+        Ok(()) => String::from("lawful\n").into(),
+        Err(refusal) => Printed { text: refused(refusal) + "\n", status: 1 },
+    })
+}
+
+fn draw(arguments: Arguments) -> Result<Printed, Failure> {
+    let [directory] = arguments.finish(["DIR"])?;
+    for path in files::missing(Path::new(&directory)) {
+        eprintln!("clearance: {} is missing and counts as empty", path.display());
+    }
+    let survey = files::read_as_program(Path::new(&directory))?;
+    Ok(match clearance::draw_to_vec(&survey.cells, &survey.corners, survey.clearance) {
+        Ok(mesh) => formats::listing(&mesh).into(),
+        Err(refusal) => {
+            eprintln!("clearance: {}", refused(refusal));
+            Printed { text: format!("refused {}\n", refusal.number()), status: 1 }
+        }
+    })
+}
+
+fn enquire(arguments: Arguments) -> Result<Printed, Failure> {
+    let [directory, axis, x, y, z, length] = arguments.finish(["DIR", "AXIS", "X", "Y", "Z", "LENGTH"])?;
+    let axis = match axis.to_str() {
+        Some("x") => 0,
+        Some("y") => 1,
+        Some("z") => 2,
+        _ => number("AXIS (x, y, z or 0, 1, 2)", &axis)?,
+    };
+    let lower_end = [number("X", &x)?, number("Y", &y)?, number("Z", &z)?];
+    let length = number("LENGTH", &length)?;
+    let survey = files::read(Path::new(&directory))?;
+    let edge = clearance::enquire(&survey.cells, &survey.corners, survey.clearance, axis, lower_end, length)?;
+    Ok(match edge {
+        Edge::Even => String::from("even\n"),
+        Edge::Crossing { number, place: [x, y, z] } => format!("crossing {number} {x} {y} {z}\n"),
+    }
+    .into())
+}
+
+fn info(arguments: Arguments) -> Result<Printed, Failure> {
+    let [directory] = arguments.finish(["DIR"])?;
+    Ok(facts::facts(&files::read(Path::new(&directory))?)?.to_string().into())
+}
+
+fn mesh(arguments: Arguments, format: fn(&Mesh) -> String) -> Result<Printed, Failure> {
+    let [directory] = arguments.finish(["DIR"])?;
+    Ok(format(&drawn(&files::read(Path::new(&directory))?)?).into())
+}
+
+fn drawn(survey: &Survey) -> Result<Mesh, Failure> {
+    Ok(clearance::draw_to_vec(&survey.cells, &survey.corners, survey.clearance)?)
+}
+
+fn render(mut arguments: Arguments) -> Result<Printed, Failure> {
+    let style = Style {
+        turn: arguments.take_degrees("--turn")?.unwrap_or(30.0),
+        tilt: arguments.take_degrees("--tilt")?.unwrap_or(35.0),
+        edges: arguments.take_flag("--edges"),
+        inside: arguments.take_flag("--inside"),
+        near: arguments.take_flag("--near"),
+    };
+    let shows_cells = arguments.take_flag("--cells");
+    let [directory, out] = arguments.finish(["DIR", "OUT"])?;
+    let out = PathBuf::from(out);
+    let make: fn(&Scene) -> Vec<u8> = match out.extension().and_then(|end| end.to_str()) {
+        Some("png") => picture::png,
+        Some("svg") => |scene| svg::svg(scene).into_bytes(),
+        _ => return Err(Failure::Usage(format!("{}: a picture's name ends in .png or .svg", out.display()))),
+    };
+    let survey = files::read(Path::new(&directory))?;
+    let mesh = drawn(&survey)?;
+    let lines = if shows_cells { cell_lines(&survey) } else { Vec::new() };
+    std::fs::write(&out, make(&Scene { mesh, lines, style })).map_err(Failure::of_file(&out))?;
+    Ok(String::new().into())
+}
+
+/// The undivided edges of the cells of a lawful survey, by their ends.
+fn cell_lines(survey: &Survey) -> Vec<[Vector; 2]> {
+    let plain = Plain::read(survey);
+    let undivided = plain.edges.iter().filter(|&&edge| !plain.is_divided(edge));
+    undivided.map(|edge| [edge.low(), edge.high()].map(|end| end.map(f64::from))).collect()
+}
+
+fn example(arguments: Arguments) -> Result<Printed, Failure> {
+    if arguments.is_empty() {
+        let line = |example: &examples::Example| format!("{:<18} {}\n", example.name, example.words);
+        return Ok(examples::EXAMPLES.iter().map(line).collect::<String>().into());
+    }
+    let [name, directory] = arguments.finish(["NAME", "DIR"])?;
+    let found = name.to_str().and_then(examples::find);
+    let unknown =
+        || Failure::Usage(format!("no example {}; 'clearance example' lists them", name.to_string_lossy()));
+    files::write(Path::new(&directory), &(found.ok_or_else(unknown)?.survey)())?;
+    Ok(String::new().into())
+}

@@ -1,0 +1,78 @@
+//! Surveys by name: those of document 01, and basins sounded over octrees of several depths.
+
+use surveys::{document, Survey};
+
+use crate::refine::{self, Fineness, MOST_SPLITS};
+use crate::shapes;
+
+/// A survey to try.
+pub struct Example {
+    /// Its name on the command line.
+    pub name: &'static str,
+    /// What it shows.
+    pub words: &'static str,
+    /// The number of the refusal it meets; 0 if it is drawn.
+    pub refusal: u32,
+    /// Makes it.
+    pub survey: fn() -> Survey,
+}
+
+/// Basins are sounded as finely as the cell table allows.
+const FINENESS: Fineness =
+    Fineness { coarsest: 256, finest: 32, tolerance: 0.5, most_splits: MOST_SPLITS, graded: false };
+
+/// The chamber has large flat walls: coarse cells stand beside the fine ones at its edges.
+fn lock_chamber() -> Survey {
+    refine::survey(shapes::lock_chamber, FINENESS)
+}
+
+/// The pool is round everywhere.
+fn weir_pool() -> Survey {
+    refine::survey(shapes::weir_pool, Fineness { graded: true, ..FINENESS })
+}
+
+const fn drawn(name: &'static str, words: &'static str, survey: fn() -> Survey) -> Example {
+    Example { name, words, refusal: 0, survey }
+}
+
+const fn refused(name: &'static str, words: &'static str, refusal: u32, survey: fn() -> Survey) -> Example {
+    Example { name, words, refusal, survey }
+}
+
+/// All examples.
+#[allow(clippy::excessive_precision)] // document 01's own number
+pub const EXAMPLES: &[Example] = &[
+    drawn("lock-chamber", "a lock chamber with a sill, gate recesses and mitred lower gates", lock_chamber),
+    drawn("weir-pool", "a weir pool: a bowl, a drowned crest and a scour hole", weir_pool),
+    drawn("hull-room", "the lock chamber at a clearance of 24: where a hull may go", || {
+        lock_chamber().at(24.0)
+    }),
+    drawn("deep-water", "the weir pool at a clearance of 96: bowl and hole by themselves", || {
+        weir_pool().at(96.0)
+    }),
+    drawn("twin", "document 01's twin survey", document::twin),
+    drawn("one-corner", "one leaf, only (0,0,0) wet", document::one_corner_wet),
+    drawn("centre", "one split, only the centre wet", document::centre_wet),
+    drawn("all-dry", "no corner wet: no points", || document::level(-1.0)),
+    drawn("all-wet", "every corner wet: no points", || document::level(1.0)),
+    drawn(
+        "opposite-corners",
+        "a face with two opposite wet corners: two steps",
+        document::opposite_corners_wet,
+    ),
+    drawn("quarter", "dry -1 at 0, wet 3 at 256: a point at 64", document::quarter_place),
+    drawn("awash", "sounding 0 at clearance 0: wet", || document::awash(0.0, 0.0)),
+    drawn("greatest-sounding", "a sounding of 1,048,576", || document::sounded(1_048_576.0)),
+    drawn("full", "2,049 cell records, the most there may be", document::full),
+    drawn("deepest", "a cell of depth 9 is split", || document::chain(10)),
+    refused("refused-1", "8,200 bytes of cells", 1, document::too_many_cells),
+    refused("refused-3", "nine records, only record 3 split, entry 1", 3, document::entry_behind_itself),
+    refused("refused-4", "a cell of depth 10 is split", 4, document::too_deep),
+    refused("refused-7", "a sounding that is not a number", 7, || document::sounded(f32::NAN)),
+    refused("refused-7-beyond", "a sounding of 1,048,576.125", 7, || document::sounded(1_048_576.125)),
+];
+
+/// The example of this name.
+pub fn find(name: &str) -> Option<&'static Example> {
+    EXAMPLES.iter().find(|example| example.name == name)
+}

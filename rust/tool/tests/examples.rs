@@ -1,0 +1,85 @@
+//! The example surveys: accepted or refused as they say, closing, and the same bytes as in the project's examples.
+
+mod common;
+
+use std::collections::BTreeSet;
+use std::path::Path;
+
+use clearance_tool::examples::{find, EXAMPLES};
+use common::{printed, root, run, survey, Place};
+use surveys::{closing, plain, refusals};
+
+#[test]
+fn every_example_is_as_it_says() {
+    let place = Place::new("examples");
+    for example in EXAMPLES {
+        let directory = place.example(example.name);
+        let survey = survey(&place.path.join(example.name));
+        assert_eq!(refusals::first(&survey), example.refusal, "{}", example.name);
+        let ran = run(&["check", &directory]);
+        match example.refusal {
+            0 => assert_eq!((ran.status, ran.out.as_str()), (0, "lawful\n"), "{}", example.name),
+            number => assert!(ran.status == 1 && ran.out.starts_with(&format!("refused {number}: "))),
+        }
+    }
+}
+
+#[test]
+fn every_example_that_is_drawn_closes() {
+    let mut basins = 0;
+    for example in EXAMPLES.iter().filter(|example| example.refusal == 0) {
+        let survey = (example.survey)();
+        let mesh =
+            clearance::draw_to_vec(&survey.cells, &survey.corners, survey.clearance).expect(example.name);
+        let (points, triangles) = (mesh.points.as_flattened(), mesh.triangles.as_flattened());
+        assert_eq!(closing::check(&survey, points, triangles), Ok(()), "{}", example.name);
+        if clearance_tool::facts::is_closed(&mesh) {
+            assert_eq!(closing::check_everywhere(&survey, points, triangles), Ok(()), "{}", example.name);
+            basins += usize::from(points.len() > 3 * 100);
+        } else {
+            assert!(closing::check_everywhere(&survey, points, triangles).is_err(), "{}", example.name);
+        }
+    }
+    assert_eq!(basins, 4);
+}
+
+#[test]
+fn basins_have_cells_of_several_sizes_at_the_surface() {
+    for name in ["lock-chamber", "weir-pool"] {
+        let survey = (find(name).expect("an example").survey)();
+        let taken_apart = plain::Plain::read(&survey);
+        let is_crossed = |leaf: &&surveys::survey::Cube| {
+            let wet = leaf.corners().into_iter().filter(|&corner| taken_apart.is_wet(corner)).count();
+            (1..8).contains(&wet)
+        };
+        let sizes: BTreeSet<u16> =
+            taken_apart.leaves.iter().filter(is_crossed).map(|leaf| leaf.size).collect();
+        assert!(sizes.len() >= 3, "{name}: {sizes:?}");
+    }
+}
+
+#[test]
+fn the_projects_examples_are_what_the_tool_writes() {
+    let place = Place::new("same");
+    let files = |directory: &Path| {
+        let read = |name: &str| std::fs::read(directory.join(name)).expect("a file of the survey");
+        ["cells", "corners", "clearance"].map(read)
+    };
+    for name in ["twin", "lock-chamber", "weir-pool"] {
+        place.example(name);
+        let (written, kept) = (files(&place.path.join(name)), files(&root().join("examples").join(name)));
+        assert!(written == kept, "examples/{name} is not what 'clearance example {name}' writes");
+    }
+}
+
+#[test]
+fn a_smaller_clearance_holds_more_water() {
+    let place = Place::new("clearance");
+    let volume = |name: &str| -> f64 {
+        let info = printed(&["info", &place.example(name)]);
+        let line = info.lines().find_map(|line| line.strip_prefix("volume ")).expect("a closed surface");
+        line.trim().parse().expect("a number")
+    };
+    assert!(volume("lock-chamber") > volume("hull-room"));
+    assert!(volume("weir-pool") > volume("deep-water"));
+}
