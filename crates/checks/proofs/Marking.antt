@@ -1,20 +1,20 @@
 -- Marks, one record further; and what is marked in the end.
-use Prim.Native.Nat.{ℕ, _+_, _^_, _≤_, _<_}
+use Prim.Native.Nat.{ℕ, zero, suc, _+_, _*_, _^_, _≤_, _<_}
 use mathlib.Core.Path.{_≡_, refl, sym, ap, _∙_}
 use mathlib.Core.Bool.{Bool, true, false, _||_, cond}
 use mathlib.Core.List.{List, [], _∷_, _++_}
 use native.Mathlib.Decide.{ℕ-discrete}
 use native.Mathlib.Omega.{arith}
 use lib.Dec.{eqb, ltb}
-use lib.ListN.{length, getD, set, drop, drop-of-length-le, length-set}
-use lib.Seq.{getD-set-same, getD-set-other}
+use lib.ListN.{length, getD, set, take, drop, drop-of-length-le, length-set, length-drop}
+use lib.Seq.{getD-set-same, getD-set-other, getD-take, getD-drop, length-take-le, take-add, drop-drop, ext-getD}
 use borrow.Author.Tests.{lt-ltb, le-ltb, eq-eqb, ne-eqb}
 use Rattle.base.specs.Lists.{all, any, collect, count, count as upTo}
 use Rattle.base.proofs.Lists.{length-count, get-count}
 use Rattle.base.proofs.Below.{rest, all-fails, all-passes, get-table}
 use Rattle.records.specs.Keys.{recordAt}
 use Rattle.cells.specs.Laid.{octantKey}
-use Rattle.base.proofs.Below.{all-append}
+use Rattle.octants.specs.Octants.{LookedUp}
 use Rattle.checks.specs.Marks.{cornerNumbers, allNumbers, marked}
 
 pub marked-none : (marks : List ℕ) → marked [] marks ≡ marks
@@ -43,66 +43,50 @@ mark-at k (j ∷ ks) marks h = mark-at k ks (set marks j 1) (omega (arith, lengt
     go (no e) true = rw (ne-eqb k j e)
     go (no e) false = rw (ne-eqb k j e) (getD-set-other marks j k 1 0 e)
 
--- one of the eight corners of a cell
-module _ (t : List ℕ) (key level i : ℕ) (h : i < 8) where
-  number-is : getD (cornerNumbers t key level) i 0 ≡ recordAt t (key + octantKey i (2 ^ level))
-  unfolding cornerNumbers
-  number-is = get-table (λ i. recordAt t (key + octantKey i (2 ^ level))) 0 8 i h
+-- a pass over a list of positions, one further
+module _ (l : List ℕ) (i n : ℕ) (h : i < length l) where
+  pub number-missing : n ≤ getD l i 0 → all (λ k. ltb k n) (drop i l) ≡ false
+  number-missing g = all-fails (λ k. ltb k n) l i 0 h (le-ltb (getD l i 0) n g)
 
-  eight : length (cornerNumbers t key level) ≡ 8
-  unfolding cornerNumbers
-  eight = refl
+  pub number-there : getD l i 0 < n → all (λ k. ltb k n) (drop (i + 1) l) ≡ all (λ k. ltb k n) (drop i l)
+  number-there g = all-passes (λ k. ltb k n) l i 0 h (lt-ltb (getD l i 0) n g)
 
-  module _ (at n : ℕ) (found : at ≡ recordAt t (key + octantKey i (2 ^ level))) where
-    pub corner-missing : n ≤ at → all (λ k. ltb k n) (drop i (cornerNumbers t key level)) ≡ false
-    corner-missing l = all-fails (λ k. ltb k n) (cornerNumbers t key level) i 0 (omega (arith, eight)) (rw (number-is, ← found) (le-ltb at n l))
+  pub number-marked : (marks : List ℕ) → marked (drop (i + 1) l) (set marks (getD l i 0) 1) ≡ marked (drop i l) marks
+  unfolding marked
+  number-marked marks = rw (rest l i 0 h)
 
-    pub corner-there : at < n → all (λ k. ltb k n) (drop (i + 1) (cornerNumbers t key level)) ≡ all (λ k. ltb k n) (drop i (cornerNumbers t key level))
-    corner-there l = all-passes (λ k. ltb k n) (cornerNumbers t key level) i 0 (omega (arith, eight)) (rw (number-is, ← found) (lt-ltb at n l))
+-- ---- the table of cells' corners as one list
 
-    pub corner-marked : (marks : List ℕ) → marked (drop (i + 1) (cornerNumbers t key level)) (set marks at 1)
-        ≡ marked (drop i (cornerNumbers t key level)) marks
-    unfolding marked
-    corner-marked marks = rw (rest (cornerNumbers t key level) i 0 (omega (arith, eight)), number-is, ← found)
-
-pub corners-done : (t : List ℕ) (key level i : ℕ) → 8 ≤ i → drop i (cornerNumbers t key level) ≡ []
-unfolding cornerNumbers
-corners-done t key level i h = drop-of-length-le (cornerNumbers t key level) {i = i} h
-
--- ---- all cells
-
-module _ (t keys levels : List ℕ) (cells : ℕ) where
+module _ (tk keys levels t : List ℕ) (cells : ℕ) (o : LookedUp tk keys levels t cells) (few : cells ≤ 2049) where
   -- the corner records of one cell
   abbrev numbersAt : ℕ → List ℕ
-  numbersAt j = cornerNumbers t (getD keys j 0) (getD levels j 0)
+  numbersAt j = cornerNumbers tk (getD keys j 0) (getD levels j 0)
 
-  -- those of the cells from n on
-  unfoldable pub numbersFrom : ℕ → List ℕ
-  numbersFrom n = collect numbersAt (drop n (count 0 cells))
+  -- they are the table's eight numbers for it
+  cell-numbers : (n : ℕ) → n < cells → take 8 (drop (8 * n) t) ≡ numbersAt n
+  unfolding cornerNumbers
+  cell-numbers n h = ext-getD 0 (take 8 (drop (8 * n) t)) (numbersAt n) eight (λ i g. at i (omega (arith, eight)))
+    where
+      eight : length (take 8 (drop (8 * n) t)) ≡ 8
+      eight = length-take-le 8 (drop (8 * n) t) (omega (arith, length-drop (8 * n) t, o .room))
 
-  pub numbers-whole : numbersFrom 0 ≡ allNumbers t keys levels cells
-  unfolding numbersFrom allNumbers
-  numbers-whole = refl
+      at : (i : ℕ) → i < 8 → getD (take 8 (drop (8 * n) t)) i 0 ≡ getD (numbersAt n) i 0
+      at i g =
+          getD-take 8 (drop (8 * n) t) i 0 g ∙ getD-drop (8 * n) t i 0 ∙ o .number n i h g
+          ∙ sym (get-table (λ i. recordAt tk (getD keys n 0 + octantKey i (2 ^ getD levels n 0))) 0 8 i g)
 
-  pub numbers-end : (n : ℕ) → cells ≤ n → numbersFrom n ≡ []
-  unfolding numbersFrom
-  numbers-end n h = ap (collect numbersAt) (drop-of-length-le (count 0 cells) {i = n} (omega (arith, length-count cells 0)))
+  -- those of k cells from cell n on
+  from : (k n : ℕ) → n + k ≤ cells → take (8 * k) (drop (8 * n) t) ≡ collect numbersAt (count n k)
+  from zero n h = refl
+  from (suc k) n h =
+      ap (λ m. take m (drop (8 * n) t)) (let e : 8 * suc k ≡ 8 + 8 * k = omega arith in e)
+      ∙ take-add 8 (8 * k) (drop (8 * n) t)
+      ∙ (λ j. cell-numbers n (omega arith) j ++ take (8 * k) ((drop-drop 8 (8 * n) t ∙ ap (λ m. drop m t) (let e : 8 * n + 8 ≡ 8 * suc n = omega arith in e)) j))
+      ∙ ap (λ r. numbersAt n ++ r) (from k (suc n) (omega arith))
 
-  numbers-next : (n : ℕ) → n < cells → numbersFrom n ≡ numbersAt n ++ numbersFrom (n + 1)
-  unfolding numbersFrom
-  numbers-next n h =
-      rw (rest (count 0 cells) n 0 (omega (arith, length-count cells 0)))
-      (ap (λ k. numbersAt k ++ collect numbersAt (drop (n + 1) (count 0 cells))) (get-count cells 0 n 0 h ∙ (let e : 0 + n ≡ n = omega arith in e)))
-
-  module _ (n m : ℕ) (h : n < cells) where
-    pub cell-misses : all (λ k. ltb k m) (numbersAt n) ≡ false → all (λ k. ltb k m) (numbersFrom n) ≡ false
-    cell-misses e = ap (all (λ k. ltb k m)) (numbers-next n h) ∙ all-append (λ k. ltb k m) (numbersAt n) (numbersFrom (n + 1)) ∙ rw e
-
-    pub cell-has : all (λ k. ltb k m) (numbersAt n) ≡ true → all (λ k. ltb k m) (numbersFrom (n + 1)) ≡ all (λ k. ltb k m) (numbersFrom n)
-    cell-has e = sym (ap (all (λ k. ltb k m)) (numbers-next n h) ∙ all-append (λ k. ltb k m) (numbersAt n) (numbersFrom (n + 1)) ∙ rw e)
-
-    pub cell-marked : (marks : List ℕ) → marked (numbersFrom (n + 1)) (marked (numbersAt n) marks) ≡ marked (numbersFrom n) marks
-    cell-marked marks = sym (ap (λ ks. marked ks marks) (numbers-next n h) ∙ marked-append (numbersAt n) (numbersFrom (n + 1)) marks)
+  pub table-is : take (8 * cells) t ≡ allNumbers tk keys levels cells
+  unfolding allNumbers
+  table-is = from cells 0 (omega arith)
 
 -- ---- every record
 

@@ -1,7 +1,7 @@
 -- What a survey that checks 1 to 7 pass gives the code above: counts that fit its tables, the rules that its look-ups ask, soundings in range,
 -- and for every corner of every cell a record, which is the corner that the rules take there.
-use Prim.Native.Nat.{ℕ, _+_, _/_, _^_, _≤_, _<_}
-use mathlib.Core.Path.{_≡_, subst}
+use Prim.Native.Nat.{ℕ, _+_, _*_, _/_, _^_, _≤_, _<_}
+use mathlib.Core.Path.{_≡_, sym, ap, _∙_, subst}
 use mathlib.Core.Logic.{_⊎_, inl, inr}
 use mathlib.Core.Bool.{true, false}
 use mathlib.Core.List.{List}
@@ -11,7 +11,8 @@ use lib.ListN.{length, getD}
 use Rattle.base.specs.Lists.{all, any}
 use Rattle.base.specs.Grid.{origin, Axis, X, Y, along, same}
 use Rattle.base.proofs.Tests.{and→, true→, false→}
-use Rattle.base.proofs.Lists.{In, in-get, all→in}
+use Rattle.base.proofs.Lists.{In, in-get, all→in, position-of}
+use Rattle.base.proofs.Places.{same→}
 use Rattle.base.proofs.Octants.{octant→}
 use Rattle.rules.specs.Survey.{entries, cellsOf, cellCorners, cornerRecord, cornersOf, cornerAt}
 use Rattle.rules.specs.Outputs.{entriesRight, rising, cornersRight, inRange}
@@ -24,10 +25,11 @@ use Rattle.octree.proofs.Aligned.{cell-in-box}
 use Rattle.octree.proofs.Accepted.{Checked}
 use Rattle.records.specs.Keys.{keyOf, placesOf, recordAt}
 use Rattle.records.proofs.Keys.{Bytes, Short, nowhere, length-corners, get-corner}
-use Rattle.records.proofs.Found.{listed-found, corner-found}
-use Rattle.cells.specs.Laid.{cellAt, tooDeep}
+use Rattle.records.proofs.Found.{record-at-place, listed-found, corner-found}
+use Rattle.cells.specs.Laid.{cellAt, tooDeep, Laid}
+use Rattle.octants.specs.Octants.{LookedUp, Octants}
 use Rattle.checks.proofs.Order.{table-fits}
-use Rattle.checks.proofs.Corners.{corner}
+use Rattle.checks.proofs.Corners.{corner, corner-key}
 
 module _ (tc tk : List ℕ) (c : Checked tc tk) where
   -- what `lay_out` and `find` ask
@@ -91,3 +93,24 @@ module _ (tc tk : List ℕ) (c : Checked tc tk) where
 
       pub taken : Bytes tk → cornerAt (cornersOf tk) (corner tc n i) ≡ cornerRecord tk (recordAt tk (keyOf (corner tc n i)))
       taken b = corner-found tk b (corner tc n i) fits (found b)
+
+      -- and that record is at the corner's place
+      pub found-there : Bytes tk → getD (placesOf tk) (recordAt tk (keyOf (corner tc n i))) origin ≡ corner tc n i
+      found-there b =
+          let p = corner tc n i in
+          let at = position-of (same p) origin (placesOf tk) 0 corner-listed in
+          let first : at .0 ≡ recordAt tk (keyOf p) = omega (arith, at .1, record-at-place tk b p fits) in
+          ap (λ m. getD (placesOf tk) m origin) (sym first) ∙ sym (same→ p (getD (placesOf tk) (at .0) origin) (at .3))
+
+  -- the table of what the look-ups gave holds the corners of all cells
+  pub octants-of : (keys levels t : List ℕ) → Bytes tk → Laid tc keys levels → LookedUp tk keys levels t (length tc / 4) → Octants tc tk t
+  octants-of keys levels t b laid o = record {
+    room = o .room;
+    octant = λ n i h g. record {
+      number = rw (is n i h g) (found n h i g b);
+      place = ap (λ k. getD (placesOf tk) k origin) (is n i h g) ∙ found-there n h i g b;
+    };
+  }
+    where
+      is : (n i : ℕ) → n < length tc / 4 → i < 8 → getD t (8 * n + i) 0 ≡ recordAt tk (keyOf (corner tc n i))
+      is n i h g = o .number n i h g ∙ ap (recordAt tk) (corner-key tc keys levels n (laid .entered n h) i g)

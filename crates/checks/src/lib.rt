@@ -1,15 +1,16 @@
-// The refusals of a survey: document 01, "Outputs and refusals", checks 1 to 8 in their order. Uses records, reader and cells.
+// The refusals of a survey: document 01, "Outputs and refusals", checks 1 to 8 in their order. Uses records, cells and octants.
 ghost use mathlib.Core.Path.{_≡_};
 ghost use mathlib.Core.Bool.{true, not};
 ghost use Prim.Native.Nat.{ℕ, _+_, _*_, _≤_, _<_, _/_};
-ghost use lib.ListN.{length, getD, set};
+ghost use lib.ListN.{length, getD, set, take};
 ghost use lib.Dec.{ltb, eqb};
 ghost use Rattle.base.specs.Lists.{all, any, count as upTo};
 ghost use Rattle.rules.specs.Survey.{entries, cellsOf, cornersOf};
 ghost use Rattle.rules.specs.Outputs.{badTable, entriesRight, rising, cornersRight, inRange, firstOf, surveyRefusal, checks};
 ghost use Rattle.records.specs.Keys.{placesOf};
 ghost use Rattle.cells.specs.Laid.{Laid};
-ghost use Rattle.checks.specs.Marks.{cornerNumbers, allNumbers, marked};
+ghost use Rattle.octants.specs.Octants.{LookedUp, Octants};
+ghost use Rattle.checks.specs.Marks.{marked};
 
 // Checks 1 and 2: empty, not whole records of n bytes, or over the limit.
 fn bad_table(t: &[u8], n: usize, limit: usize) -> bool
@@ -49,52 +50,27 @@ fn mark(marks: &mut [u8], at: usize)
     marks[at] = 1;
 }
 
-// Looks up the eight corners of a cell, by the key of its lowest corner and its level. False if one is missing; else each is marked.
-fn mark_corners(corners: &[u8], count: usize, key: u64, level: u8, marks: &mut [u8]) -> bool
-    requires { ⌜ count ≡ length (now corners) / 10 ⌝ }
-    requires { ⌜ rising (placesOf (now corners)) ≡ true ⌝ }
-    requires { ⌜ count ≤ length (now marks) ⌝ }
-    requires { ⌜ (key ≤ 9223372036854775808) × (level ≤ 10) ⌝ }
-    ensures { λ r. ⌜ r ≡ all (λ k. ltb k count) (cornerNumbers (now (corners .entry)) key level) ⌝ }
-    ensures { λ r. ⌜ (r ≡ true → now (marks .exit) ≡ marked (cornerNumbers (now (corners .entry)) key level) (now (marks .entry))) ⌝ }
+// A number of the table as an index.
+fn wide(x: u16) -> usize
+    ensures { λ r. ⌜ r ≡ x ⌝ }
 {
-    let size = cells::size_of(level);
+    x as usize
+}
+
+// Marks each record of the first `len` in the table of cells' corners. False if one is no record.
+fn mark_all(octants: &[u16], len: usize, count: usize, marks: &mut [u8]) -> bool
+    requires { ⌜ (len ≤ length (now octants)) × (count ≤ length (now marks)) ⌝ }
+    ensures { λ r. ⌜ r ≡ all (λ k. ltb k count) (take len (now (octants .entry))) ⌝ }
+    ensures { λ r. ⌜ (r ≡ true → now (marks .exit) ≡ marked (take len (now (octants .entry))) (now (marks .entry))) ⌝ }
+{
     let mut i: usize = 0;
-    while i < 8 {
-        let at = reader::find(corners, key + cells::octant_key(i, size));
+    while i < len {
+        let at = wide(octants[i]);
         if count <= at {
             return false;
         }
         mark(marks, at);
         i += 1;
-    }
-    true
-}
-
-// Looks up and marks the corners of all cells, by their tables. False if one is missing.
-fn mark_cells(
-    keys: &[u64],
-    levels: &[u8],
-    cells: usize,
-    corners: &[u8],
-    count: usize,
-    marks: &mut [u8],
-) -> bool
-    requires { ⌜ count ≡ length (now corners) / 10 ⌝ }
-    requires { ⌜ rising (placesOf (now corners)) ≡ true ⌝ }
-    requires { ⌜ count ≤ length (now marks) ⌝ }
-    requires { ⌜ (cells ≤ length (now keys)) × (cells ≤ length (now levels)) ⌝ }
-    requires { ⌜ ((n : ℕ) → n < cells → (getD (now keys) n 0 ≤ 9223372036854775808) × (getD (now levels) n 0 ≤ 10)) ⌝ }
-    ensures { λ r. ⌜ r ≡ all (λ k. ltb k count) (allNumbers (now (corners .entry)) (now (keys .entry)) (now (levels .entry)) cells) ⌝ }
-    ensures { λ r. ⌜ (r ≡ true → now (marks .exit)
-        ≡ marked (allNumbers (now (corners .entry)) (now (keys .entry)) (now (levels .entry)) cells) (now (marks .entry))) ⌝ }
-{
-    let mut n: usize = 0;
-    while n < cells {
-        if !mark_corners(corners, count, keys[n], levels[n], marks) {
-            return false;
-        }
-        n += 1;
     }
     true
 }
@@ -115,25 +91,34 @@ fn all_marked(marks: &[u8], count: usize) -> bool
 }
 
 // Check 6: there is a record for every corner of every cell, and none else.
-fn corners_right(cells: &[u8], keys: &[u64], levels: &[u8], corners: &[u8], count: usize) -> bool
+fn corners_right(cells: &[u8], keys: &[u64], levels: &[u8], corners: &[u8], octants: &[u16]) -> bool
     requires { ⌜ entriesRight 0 0 (entries (now cells)) ≡ true ⌝ }
     requires { ⌜ Laid (now cells) (now keys) (now levels) ⌝ }
-    requires { ⌜ (length (now cells) / 4 ≤ length (now keys)) × (length (now cells) / 4 ≤ length (now levels)) ⌝ }
-    requires { ⌜ (count ≡ length (now corners) / 10) × (count ≤ 4872) ⌝ }
+    requires { ⌜ (length (now cells) ≤ 8196) × (length (now corners) ≤ 48720) ⌝ }
     requires { ⌜ rising (placesOf (now corners)) ≡ true ⌝ }
+    requires { ⌜ LookedUp (now corners) (now keys) (now levels) (now octants) (length (now cells) / 4) ⌝ }
     ensures { λ r. ⌜ r ≡ cornersRight (cellsOf (now (cells .entry))) (placesOf (now (corners .entry))) ⌝ }
 {
-    let records = cells.len() / 4;
+    let count = corners.len() / 10;
     let mut marks = [0u8; 4872];
-    if !mark_cells(keys, levels, records, corners, count, &mut marks) {
+    if !mark_all(octants, 8 * (cells.len() / 4), count, &mut marks) {
         return false;
     }
     all_marked(&marks, count)
 }
 
-// Checks 1 to 7: the number of the first that applies, or 0. A check of the survey by itself.
-pub fn check(cells: &[u8], corners: &[u8]) -> u32
+// Checks 1 to 7: the number of the first that applies, or 0. Then the tables hold the cells and their corners.
+pub fn read(
+    cells: &[u8],
+    corners: &[u8],
+    keys: &mut [u64],
+    levels: &mut [u8],
+    octants: &mut [u16],
+) -> u32
+    requires { ⌜ (length (now keys) ≡ 2049) × (length (now levels) ≡ 2049) × (length (now octants) ≡ 16392) ⌝ }
     ensures { λ r. ⌜ r ≡ surveyRefusal (now (cells .entry)) (now (corners .entry)) ⌝ }
+    ensures { λ r. ⌜ (r ≡ 0 → Laid (now (cells .entry)) (now (keys .exit)) (now (levels .exit))) ⌝ }
+    ensures { λ r. ⌜ (r ≡ 0 → Octants (now (cells .entry)) (now (corners .entry)) (now (octants .exit))) ⌝ }
 {
     if bad_table(cells, 4, 8196) {
         return 1;
@@ -146,15 +131,14 @@ pub fn check(cells: &[u8], corners: &[u8]) -> u32
     if !cells::entries_right(cells, records) {
         return 3;
     }
-    let mut keys = [0u64; 2049];
-    let mut levels = [0u8; 2049];
-    if cells::lay_out(cells, records, &mut keys, &mut levels) {
+    if cells::lay_out(cells, records, keys, levels) {
         return 4;
     }
     if !records::corners_rise(corners, count) {
         return 5;
     }
-    if !corners_right(cells, &keys, &levels, corners, count) {
+    octants::fill(corners, keys, levels, records, octants);
+    if !corners_right(cells, keys, levels, corners, octants) {
         return 6;
     }
     if bad_sounding(corners, count) {
@@ -163,11 +147,31 @@ pub fn check(cells: &[u8], corners: &[u8]) -> u32
     0
 }
 
-// Checks 1 to 8, the clearance last: the number of the first that applies, or 0.
-pub fn refusal(cells: &[u8], corners: &[u8], clearance: f32) -> u32
-    ensures { λ r. ⌜ r ≡ firstOf (checks (now (cells .entry)) (now (corners .entry)) clearance) ⌝ }
+// A check of the survey by itself, checks 1 to 7: the number of the first that applies, or 0.
+pub fn check(cells: &[u8], corners: &[u8]) -> u32
+    ensures { λ r. ⌜ r ≡ surveyRefusal (now (cells .entry)) (now (corners .entry)) ⌝ }
 {
-    let number = check(cells, corners);
+    let mut keys = [0u64; 2049];
+    let mut levels = [0u8; 2049];
+    let mut octants = [0u16; 16392];
+    read(cells, corners, &mut keys, &mut levels, &mut octants)
+}
+
+// Checks 1 to 8, the clearance last: the number of the first that applies, or 0. Then the tables hold the cells and their corners.
+pub fn refusal(
+    cells: &[u8],
+    corners: &[u8],
+    clearance: f32,
+    keys: &mut [u64],
+    levels: &mut [u8],
+    octants: &mut [u16],
+) -> u32
+    requires { ⌜ (length (now keys) ≡ 2049) × (length (now levels) ≡ 2049) × (length (now octants) ≡ 16392) ⌝ }
+    ensures { λ r. ⌜ r ≡ firstOf (checks (now (cells .entry)) (now (corners .entry)) clearance) ⌝ }
+    ensures { λ r. ⌜ (r ≡ 0 → Laid (now (cells .entry)) (now (keys .exit)) (now (levels .exit))) ⌝ }
+    ensures { λ r. ⌜ (r ≡ 0 → Octants (now (cells .entry)) (now (corners .entry)) (now (octants .exit))) ⌝ }
+{
+    let number = read(cells, corners, keys, levels, octants);
     if number != 0 {
         return number;
     }

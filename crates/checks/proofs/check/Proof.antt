@@ -1,200 +1,22 @@
--- `checks::check` meets its contract: each return has the checks before it passed, and its own that applies.
-use native.Mathlib.Omega.{arith}
-use mathlib.Core.Path.{_∙_, sym, ap, refl}
-use mathlib.Core.Bool.{not}
-use borrow.Author.Tests.{not-false}
-use Rattle.checks.proofs.Order.{
-  table-fits,
-  refused-one,
-  refused-two,
-  refused-three,
-  refused-four,
-  refused-five,
-  refused-six,
-  refused-seven,
-  none-refused,
-}
+-- `checks::check` meets its contract: it is `read` with tables of its own.
 use borrow.Author.Needs.{needs}
 use Rattle.checks.proofs.check.Statement.{statement}
 use Rattle.checks.proofs.check.Tie as tie
 
-bad-table-requires : tie.Need-bad-table-requires
-bad-table-requires c κs = search needs
+slice-aggregate-read : tie.Need-slice-aggregate-read
+slice-aggregate-read c = search needs
+
+slice-aggregate-read-2 : tie.Need-slice-aggregate-read-2
+slice-aggregate-read-2 c = search needs
+
+slice-aggregate-read-3 : tie.Need-slice-aggregate-read-3
+slice-aggregate-read-3 c = search needs
+
+read-requires : tie.Need-read-requires
+read-requires c κs = search needs
 
 returns : tie.Need-returns
-returns c =
-    let a = c .before .before .before .before .args in
-    refused-one (a .cells .now) (a .corners .now)
-    (sym (c .before .bad-table .ensures) ∙ c .if1 .taken)
-
-bad-table-requires-2 : tie.Need-bad-table-requires-2
-bad-table-requires-2 c κs = search needs
-
-returns-2 : tie.Need-returns-2
-returns-2 c =
-    let p1 = c .before .before in
-    let a = p1 .before .before .before .before .args in
-    refused-two (a .cells .now) (a .corners .now)
-    (sym (p1 .before .bad-table .ensures) ∙ p1 .if1 .left)
-    (sym (c .before .bad-table2 .ensures) ∙ c .if2 .taken)
-
-entries-right-requires : tie.Need-entries-right-requires
-entries-right-requires c κs =
-    let p1 = c .before .before in
-    let a = p1 .before .before .before .before .args in
-    (refl, table-fits 4 8196 (a .cells .now) (sym (p1 .before .bad-table .ensures) ∙ p1 .if1 .left))
-
-returns-3 : tie.Need-returns-3
-returns-3 c =
-    let p2 = c .before .before in
-    let p1 = p2 .before .before in
-    let a = p1 .before .before .before .before .args in
-    refused-three (a .cells .now) (a .corners .now)
-    (sym (p1 .before .bad-table .ensures) ∙ p1 .if1 .left)
-    (sym (p2 .before .bad-table2 .ensures) ∙ p2 .if2 .left)
-    (ap not (sym (c .before .entries-right .ensures)) ∙ c .if3 .taken)
-
-slice-aggregate-lay-out : tie.Need-slice-aggregate-lay-out
-slice-aggregate-lay-out c = search needs
-
-slice-aggregate-lay-out-2 : tie.Need-slice-aggregate-lay-out-2
-slice-aggregate-lay-out-2 c = search needs
-
-lay-out-requires : tie.Need-lay-out-requires
-lay-out-requires c κs =
-    let p3 = c .before .before in
-    let p2 = p3 .before .before in
-    let p1 = p2 .before .before in
-    let a = p1 .before .before .before .before .args in
-    let most = table-fits 4 8196 (a .cells .now) (sym (p1 .before .bad-table .ensures) ∙ p1 .if1 .left) in
-    let right = sym (p3 .before .entries-right .ensures) ∙ not-false (p3 .before .entries-right .result) (p3 .if3 .left) in
-    (refl, (right, (omega arith, omega arith)))
-
-returns-4 : tie.Need-returns-4
-returns-4 c =
-    let p3 = c .before .before .before .before .before .before in
-    let p2 = p3 .before .before in
-    let p1 = p2 .before .before in
-    let a = p1 .before .before .before .before .args in
-    refused-four (a .cells .now) (a .corners .now)
-    (sym (p1 .before .bad-table .ensures) ∙ p1 .if1 .left)
-    (sym (p2 .before .bad-table2 .ensures) ∙ p2 .if2 .left)
-    (ap not (sym (p3 .before .entries-right .ensures)) ∙ p3 .if3 .left)
-    (sym (c .before .before .before .lay-out .ensures .0) ∙ c .if4 .taken)
-
-corners-rise-requires : tie.Need-corners-rise-requires
-corners-rise-requires c κs = search needs
-
-returns-5 : tie.Need-returns-5
-returns-5 c =
-    let p4 = c .before .before in
-    let p3 = p4 .before .before .before .before .before .before in
-    let p2 = p3 .before .before in
-    let p1 = p2 .before .before in
-    let a = p1 .before .before .before .before .args in
-    refused-five (a .cells .now) (a .corners .now)
-    (sym (p1 .before .bad-table .ensures) ∙ p1 .if1 .left)
-    (sym (p2 .before .bad-table2 .ensures) ∙ p2 .if2 .left)
-    (ap not (sym (p3 .before .entries-right .ensures)) ∙ p3 .if3 .left)
-    (sym (p4 .before .before .before .lay-out .ensures .0) ∙ p4 .if4 .left)
-    (ap not (sym (c .before .corners-rise .ensures)) ∙ c .if5 .taken)
-
-slice-aggregate-corners-right : tie.Need-slice-aggregate-corners-right
-slice-aggregate-corners-right c = search needs
-
-slice-aggregate-corners-right-2 : tie.Need-slice-aggregate-corners-right-2
-slice-aggregate-corners-right-2 c = search needs
-
-corners-right-requires : tie.Need-corners-right-requires
-corners-right-requires c κs =
-    let p5 = c .before .before in
-    let p4 = p5 .before .before in
-    let p3 = p4 .before .before .before .before .before .before in
-    let p2 = p3 .before .before in
-    let p1 = p2 .before .before in
-    let a = p1 .before .before .before .before .args in
-    let most = table-fits 4 8196 (a .cells .now) (sym (p1 .before .bad-table .ensures) ∙ p1 .if1 .left) in
-    let few = table-fits 10 48720 (a .corners .now) (sym (p2 .before .bad-table2 .ensures) ∙ p2 .if2 .left) in
-    let right = sym (p3 .before .entries-right .ensures) ∙ not-false (p3 .before .entries-right .result) (p3 .if3 .left) in
-    let up = sym (p5 .before .corners-rise .ensures) ∙ not-false (p5 .before .corners-rise .result) (p5 .if5 .left) in
-    let laid = p4 .before .before .before .lay-out .ensures .1 (p4 .if4 .left) in
-    (right, (laid, ((search needs, search needs), ((refl, omega arith), up))))
-
-returns-6 : tie.Need-returns-6
-returns-6 c =
-    let p5 = c .before .before .before .before in
-    let p4 = p5 .before .before in
-    let p3 = p4 .before .before .before .before .before .before in
-    let p2 = p3 .before .before in
-    let p1 = p2 .before .before in
-    let a = p1 .before .before .before .before .args in
-    refused-six (a .cells .now) (a .corners .now)
-    (sym (p1 .before .bad-table .ensures) ∙ p1 .if1 .left)
-    (sym (p2 .before .bad-table2 .ensures) ∙ p2 .if2 .left)
-    (ap not (sym (p3 .before .entries-right .ensures)) ∙ p3 .if3 .left)
-    (sym (p4 .before .before .before .lay-out .ensures .0) ∙ p4 .if4 .left)
-    (ap not (sym (p5 .before .corners-rise .ensures)) ∙ p5 .if5 .left)
-    (ap not (sym (c .before .corners-right .ensures)) ∙ c .if6 .taken)
-
-bad-sounding-requires : tie.Need-bad-sounding-requires
-bad-sounding-requires c κs = search needs
-
-returns-7 : tie.Need-returns-7
-returns-7 c =
-    let p6 = c .before .before in
-    let p5 = p6 .before .before .before .before in
-    let p4 = p5 .before .before in
-    let p3 = p4 .before .before .before .before .before .before in
-    let p2 = p3 .before .before in
-    let p1 = p2 .before .before in
-    let a = p1 .before .before .before .before .args in
-    refused-seven (a .cells .now) (a .corners .now)
-    (sym (p1 .before .bad-table .ensures) ∙ p1 .if1 .left)
-    (sym (p2 .before .bad-table2 .ensures) ∙ p2 .if2 .left)
-    (ap not (sym (p3 .before .entries-right .ensures)) ∙ p3 .if3 .left)
-    (sym (p4 .before .before .before .lay-out .ensures .0) ∙ p4 .if4 .left)
-    (ap not (sym (p5 .before .corners-rise .ensures)) ∙ p5 .if5 .left)
-    (ap not (sym (p6 .before .corners-right .ensures)) ∙ p6 .if6 .left)
-    (sym (c .before .bad-sounding .ensures) ∙ c .if7 .taken)
-
-returns-8 : tie.Need-returns-8
-returns-8 c =
-    let p6 = c .before .before in
-    let p5 = p6 .before .before .before .before in
-    let p4 = p5 .before .before in
-    let p3 = p4 .before .before .before .before .before .before in
-    let p2 = p3 .before .before in
-    let p1 = p2 .before .before in
-    let a = p1 .before .before .before .before .args in
-    none-refused (a .cells .now) (a .corners .now)
-    (sym (p1 .before .bad-table .ensures) ∙ p1 .if1 .left)
-    (sym (p2 .before .bad-table2 .ensures) ∙ p2 .if2 .left)
-    (ap not (sym (p3 .before .entries-right .ensures)) ∙ p3 .if3 .left)
-    (sym (p4 .before .before .before .lay-out .ensures .0) ∙ p4 .if4 .left)
-    (ap not (sym (p5 .before .corners-rise .ensures)) ∙ p5 .if5 .left)
-    (ap not (sym (p6 .before .corners-right .ensures)) ∙ p6 .if6 .left)
-    (sym (c .before .bad-sounding .ensures) ∙ c .if7 .left)
+returns c = c .before .before .before .read .ensures .0
 
 pub check-spec : {M : Type 1} → statement M
-check-spec =
-    tie.close
-    (tie.spec
-    bad-table-requires
-    returns
-    bad-table-requires-2
-    returns-2
-    entries-right-requires
-    returns-3
-    slice-aggregate-lay-out
-    slice-aggregate-lay-out-2
-    lay-out-requires
-    returns-4
-    corners-rise-requires
-    returns-5
-    slice-aggregate-corners-right
-    slice-aggregate-corners-right-2
-    corners-right-requires
-    returns-6
-    bad-sounding-requires
-    returns-7
-    returns-8)
+check-spec = tie.close (tie.spec slice-aggregate-read slice-aggregate-read-2 slice-aggregate-read-3 read-requires returns)

@@ -1,4 +1,5 @@
 -- `checks::refusal` meets its contract: the clearance is looked at where the survey is not refused.
+use native.Mathlib.Omega.{arith}
 use mathlib.Core.Path.{_∙_, sym, ap}
 use mathlib.Core.Bool.{not}
 use Rattle.checks.proofs.Order.{survey-refused, clearance-refused, nothing-refused}
@@ -6,30 +7,79 @@ use borrow.Author.Needs.{needs}
 use Rattle.checks.proofs.refusal.Statement.{statement}
 use Rattle.checks.proofs.refusal.Tie as tie
 
-check-requires : tie.Need-check-requires
-check-requires c κs = search needs
+read-requires : tie.Need-read-requires
+read-requires c κs = search needs
+
+same-length : tie.Need-same-length
+same-length c = search needs
+
+same-length-2 : tie.Need-same-length-2
+same-length-2 c = search needs
+
+same-length-3 : tie.Need-same-length-3
+same-length-3 c = search needs
 
 returns : tie.Need-returns
 returns c =
-    let a = c .before .before .before .before .args in
-    survey-refused (a .cells .now) (a .corners .now) (a .clearance) (c .before .check .result) (c .before .check .ensures) (c .if1 .taken)
+    let r = c .before .before .before .before .before .before .before in
+    let a = r .before .before .before .before .before .before .before .before .before .args in
+    let e = survey-refused (a .cells .now) (a .corners .now) (a .clearance) (r .read .result) (r .read .ensures .0) (c .if1 .taken) in
+    (e, ((λ z. absurd (c .if1 .taken z)), (λ z. absurd (c .if1 .taken z))))
 
 in-range-requires : tie.Need-in-range-requires
 in-range-requires c κs = search needs
 
+same-length-4 : tie.Need-same-length-4
+same-length-4 c = search needs
+
+same-length-5 : tie.Need-same-length-5
+same-length-5 c = search needs
+
+same-length-6 : tie.Need-same-length-6
+same-length-6 c = search needs
+
 returns-2 : tie.Need-returns-2
 returns-2 c =
-    let k = c .before .before .before in
-    let a = k .before .before .before .args in
-    clearance-refused (a .cells .now) (a .corners .now) (a .clearance) (k .check .result) (k .check .ensures) (c .before .before .if1 .left)
-    (ap not (sym (c .before .in-range .ensures)) ∙ c .if2 .taken)
+    let p = c .before .before in
+    let r = p .before .before .before .before .before .before .before in
+    let a = r .before .before .before .before .before .before .before .before .before .args in
+    let e = clearance-refused (a .cells .now) (a .corners .now) (a .clearance) (r .read .result) (r .read .ensures .0) (p .if1 .left)
+    (ap not (sym (c .before .in-range .ensures)) ∙ c .if2 .taken) in
+    (e, ((λ z. absurd (omega arith)), (λ z. absurd (omega arith))))
+
+same-length-7 : tie.Need-same-length-7
+same-length-7 c = search needs
+
+same-length-8 : tie.Need-same-length-8
+same-length-8 c = search needs
+
+same-length-9 : tie.Need-same-length-9
+same-length-9 c = search needs
 
 returns-3 : tie.Need-returns-3
 returns-3 c =
-    let k = c .before .before .before in
-    let a = k .before .before .before .args in
-    nothing-refused (a .cells .now) (a .corners .now) (a .clearance) (k .check .result) (k .check .ensures) (c .before .before .if1 .left)
-    (ap not (sym (c .before .in-range .ensures)) ∙ c .if2 .left)
+    let p = c .before .before in
+    let r = p .before .before .before .before .before .before .before in
+    let a = r .before .before .before .before .before .before .before .before .before .args in
+    let e = nothing-refused (a .cells .now) (a .corners .now) (a .clearance) (r .read .result) (r .read .ensures .0) (p .if1 .left)
+    (ap not (sym (c .before .in-range .ensures)) ∙ c .if2 .left) in
+    (e, ((λ z. r .read .ensures .1 .0 (p .if1 .left)), (λ z. r .read .ensures .1 .1 (p .if1 .left))))
 
 pub refusal-spec : {M : Type 1} → statement M
-refusal-spec = tie.close (tie.spec check-requires returns in-range-requires returns-2 returns-3)
+refusal-spec =
+    tie.close
+    (tie.spec
+    read-requires
+    same-length
+    same-length-2
+    same-length-3
+    returns
+    in-range-requires
+    same-length-4
+    same-length-5
+    same-length-6
+    returns-2
+    same-length-7
+    same-length-8
+    same-length-9
+    returns-3)
