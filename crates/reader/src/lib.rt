@@ -1,11 +1,11 @@
 // Corner look-up through one small reader laid over the lent corner bytes: every look-up of a corner by its place goes through `find`. Uses records.
 ghost use mathlib.Core.Path.{_≡_};
 ghost use mathlib.Core.Bool.{true};
-ghost use Prim.Native.Nat.{_+_, _*_, _≤_, _/_};
+ghost use Prim.Native.Nat.{ℕ, _+_, _*_, _≤_, _<_, _/_};
 ghost use lib.ListN.{length};
-ghost use Rattle.rules.specs.Survey.{cornerRecord};
+ghost use Rattle.rules.specs.Survey.{cornerRecord, placeOf};
 ghost use Rattle.rules.specs.Outputs.{rising};
-ghost use Rattle.records.specs.Keys.{placesOf, recordAt};
+ghost use Rattle.records.specs.Keys.{keyOf, placesOf, recordAt};
 ghost use Rattle.reader.specs.Ordered.{Ordered};
 use rules::Corner;
 
@@ -22,20 +22,46 @@ pub fn count_of(bytes: &[u8]) -> usize
     bytes.len() / 10
 }
 
-// The number of the corner record at the place with this key, by halving; `count` where there is none.
+// 1 if there is a record `at` and its key is smaller, else 0.
+fn is_below(corners: &[u8], count: usize, key: u64, at: usize) -> usize
+    requires { ⌜ count ≡ length (now corners) / 10 ⌝ }
+    ensures { λ r. ⌜ r ≤ 1 ⌝ }
+    ensures { λ r. ⌜ (1 ≤ r → (at < count) × (keyOf (placeOf (cornerRecord (now (corners .entry)) at)) < key)) ⌝ }
+    ensures { λ r. ⌜ (r < 1 → at < count → key ≤ keyOf (placeOf (cornerRecord (now (corners .entry)) at))) ⌝ }
+{
+    if at < count {
+        return (records::key_at(corners, at) < key) as usize;
+    }
+    0
+}
+
+// One round of `find_in`. From `low` on stand four parts of `size` records, with one record between a part and the next. The result is where the part begins
+// in which the search goes on. The three records between are all looked at and counted: a processor can't foretell a branch on a key.
+fn narrowed(corners: &[u8], count: usize, key: u64, low: usize, size: usize) -> usize
+    requires { ⌜ Ordered (now corners) count ⌝ }
+    requires { ⌜ (low ≤ count) × (size ≤ count) ⌝ }
+    ensures { λ r. ⌜ r ≤ count ⌝ }
+    ensures { λ r. ⌜ ((j : ℕ) → low ≤ j → j < r → keyOf (placeOf (cornerRecord (now (corners .entry)) j)) < key) ⌝ }
+    ensures { λ r. ⌜ ((j : ℕ) → r + size ≤ j → j < low + 4 * size + 3 → j < count → key ≤ keyOf (placeOf (cornerRecord (now (corners .entry)) j))) ⌝ }
+{
+    let step = size + 1;
+    let first = low + size;
+    let smaller = is_below(corners, count, key, first)
+        + is_below(corners, count, key, first + step)
+        + is_below(corners, count, key, first + 2 * step);
+    low + smaller * step
+}
+
+// The number of the corner record at the place with this key, by quartering; `count` where there is none.
 pub fn find_in(corners: &[u8], count: usize, key: u64) -> usize
     requires { ⌜ Ordered (now corners) count ⌝ }
     ensures { λ r. ⌜ r ≡ recordAt (now (corners .entry)) key ⌝ }
 {
     let mut low: usize = 0;
-    let mut high: usize = count;
-    while low < high {
-        let middle = low + (high - low) / 2;
-        if records::key_at(corners, middle) < key {
-            low = middle + 1;
-        } else {
-            high = middle;
-        }
+    let mut size: usize = count;
+    while size > 0 {
+        size = size / 4;
+        low = narrowed(corners, count, key, low, size);
     }
     if low < count {
         if records::key_at(corners, low) == key {

@@ -1,10 +1,10 @@
--- Records that rise: check 5 record by record, and a search by halving for the record with a key.
-use Prim.Native.Nat.{ℕ, zero, suc, _+_, _/_, _≤_, _<_}
+-- Records that rise: check 5 record by record, and a search by quartering for the record with a key.
+use Prim.Native.Nat.{ℕ, zero, suc, _+_, _*_, _/_, _≤_, _<_}
 use mathlib.Core.Path.{_≡_, refl, sym, ap, _∙_}
 use mathlib.Core.Bool.{Bool, true, false, _&&_, false≢true}
 use mathlib.Core.List.{List, [], _∷_}
 use native.Mathlib.Numerals.{add-one}
-use native.Mathlib.Nat.{zero-add}
+use native.Mathlib.Nat.{zero-add, mul-le-mul-right}
 use native.Mathlib.Decide.{ℕ-discrete, decLt}
 use native.Mathlib.Omega.{arith}
 use lib.Dec.{eqb, ltb}
@@ -104,6 +104,76 @@ module _ (t : List ℕ) (b : Bytes t) where
         go : Dec (j ≡ m) → k ≤ keyAt t j
         go (yes e) = rw e h
         go (no e) = omega (arith, keys-rise m j (omega arith) l)
+
+    -- ---- one round of the search: of three records, each a step behind the other, so many have smaller keys
+
+    -- what a look at record m tells: 1 if it is there and has a smaller key, else 0
+    abbrev pub Look : ℕ → ℕ → ℕ → ℕ → Type 0
+    Look n k m r = (r ≤ 1) × ((1 ≤ r → (m < n) × (keyAt t m < k)) × (r < 1 → m < n → k ≤ keyAt t m))
+
+    module _ (n k low size a c d : ℕ) (same : n ≡ length t / 10)
+        (f : Look n k (low + size) a) (g : Look n k (low + size + (size + 1)) c) (h : Look n k (low + size + 2 * (size + 1)) d) where
+      -- so many steps, held to a number that is known
+      at-most : (m : ℕ) → a + c + d ≤ m → (a + c + d) * (size + 1) ≤ m * (size + 1)
+      at-most m l = mul-le-mul-right (size + 1) l
+
+      at-least : (m : ℕ) → m ≤ a + c + d → m * (size + 1) ≤ (a + c + d) * (size + 1)
+      at-least m l = mul-le-mul-right (size + 1) l
+
+      pub round-le : low ≤ n → low + (a + c + d) * (size + 1) ≤ n
+      round-le l = go (decLt 0 a) (decLt 0 c) (decLt 0 d)
+        where
+          go : Dec (0 < a) → Dec (0 < c) → Dec (0 < d) → low + (a + c + d) * (size + 1) ≤ n
+          go _ _ (yes w) = omega (arith, at-most 3 (omega (arith, f .0, g .0, h .0)), h .1 .0 (omega arith) .0)
+          go _ (yes v) (no w) = omega (arith, at-most 2 (omega (arith, f .0, g .0, h .0)), g .1 .0 (omega arith) .0)
+          go (yes u) (no v) (no w) = omega (arith, at-most 1 (omega (arith, f .0, g .0, h .0)), f .1 .0 (omega arith) .0)
+          go (no u) (no v) (no w) = omega (arith, at-most 0 (omega arith), l)
+
+      pub round-below : (j : ℕ) → low ≤ j → j < low + (a + c + d) * (size + 1) → keyAt t j < k
+      round-below j l q = go (decLt 0 a) (decLt 0 c) (decLt 0 d)
+        where
+          go : Dec (0 < a) → Dec (0 < c) → Dec (0 < d) → keyAt t j < k
+          go _ _ (yes w) =
+              let there = h .1 .0 (omega arith) in
+              below-middle _ k (omega (arith, there .0, same)) (there .1) j (omega (arith, q, at-most 3 (omega (arith, f .0, g .0, h .0))))
+          go _ (yes v) (no w) =
+              let there = g .1 .0 (omega arith) in
+              below-middle _ k (omega (arith, there .0, same)) (there .1) j (omega (arith, q, at-most 2 (omega (arith, f .0, g .0, h .0))))
+          go (yes u) (no v) (no w) =
+              let there = f .1 .0 (omega arith) in
+              below-middle _ k (omega (arith, there .0, same)) (there .1) j (omega (arith, q, at-most 1 (omega (arith, f .0, g .0, h .0))))
+          go (no u) (no v) (no w) = absurd (omega (arith, l, q, at-most 0 (omega arith)))
+
+      pub round-from : (j : ℕ) → low + (a + c + d) * (size + 1) + size ≤ j → j < low + 4 * size + 3 → j < n → k ≤ keyAt t j
+      round-from j l q e = go (decLt 0 a) (decLt 0 c) (decLt 0 d)
+        where
+          go : Dec (0 < a) → Dec (0 < c) → Dec (0 < d) → k ≤ keyAt t j
+          go (no u) _ _ = from-middle (low + size) k (f .1 .1 (omega arith) (omega (arith, l, e))) j (omega (arith, l)) (omega (arith, e, same))
+          go (yes u) (no v) _ =
+              let further = at-least 1 (omega arith) in
+              from-middle (low + size + (size + 1)) k (g .1 .1 (omega arith) (omega (arith, l, e, further))) j (omega (arith, l, further)) (omega (arith, e, same))
+          go (yes u) (yes v) (no w) =
+              let further = at-least 2 (omega arith) in
+              from-middle (low + size + 2 * (size + 1)) k (h .1 .1 (omega arith) (omega (arith, l, e, further))) j (omega (arith, l, further)) (omega (arith, e, same))
+          go (yes u) (yes v) (yes w) = absurd (omega (arith, l, q, at-least 3 (omega arith)))
+
+-- ---- from one round to the next: what is known before it, and what the round tells
+
+module _ (t : List ℕ) (k : ℕ) where
+  pub goes-on-below : (low r : ℕ) → ((j : ℕ) → j < low → keyAt t j < k) → ((j : ℕ) → low ≤ j → j < r → keyAt t j < k) → (j : ℕ) → j < r → keyAt t j < k
+  goes-on-below low r f g j h = go (decLt j low)
+    where
+      go : Dec (j < low) → keyAt t j < k
+      go (yes q) = f j q
+      go (no q) = g j (omega arith) h
+
+  pub goes-on-from : (low r n : ℕ) → ((j : ℕ) → low ≤ j → j < n → k ≤ keyAt t j) → ((j : ℕ) → r ≤ j → j < low → j < n → k ≤ keyAt t j)
+      → (j : ℕ) → r ≤ j → j < n → k ≤ keyAt t j
+  goes-on-from low r n f g j h l = go (decLt j low)
+    where
+      go : Dec (j < low) → k ≤ keyAt t j
+      go (yes q) = g j h q l
+      go (no q) = f j (omega arith) l
 
 -- ---- where the search ends
 
