@@ -44,12 +44,10 @@ impl std::ops::Index<EdgeId> for EdgeTrees {
 impl EdgeTrees {
     /// The edge-trees over the cells of a survey.
     pub(crate) fn over(survey: &Survey) -> EdgeTrees {
-        let mut keys: Vec<EdgeKey> = survey
-            .cells
-            .iter()
-            .zip(&survey.cell_corners)
-            .flat_map(|(cell, corners)| cell_edges(cell, corners))
-            .collect();
+        let mut keys = Vec::with_capacity(CELL_EDGES.len() * survey.cells.len());
+        for (cell, corners) in survey.cells.iter().zip(&survey.cell_corners) {
+            keys.extend(cell_edges(cell, corners));
+        }
         keys.sort_unstable();
         keys.dedup();
         let edges: Vec<TreeEdge> = keys.into_iter().map(EdgeKey::unlinked).collect();
@@ -129,13 +127,13 @@ impl EdgeKey {
     }
 }
 
+/// The edges of a cell: axis and place of the lower end.
+const CELL_EDGES: [(usize, usize); 12] =
+    [(0, 0), (0, 2), (0, 4), (0, 6), (1, 0), (1, 1), (1, 4), (1, 5), (2, 0), (2, 1), (2, 2), (2, 3)];
+
 /// The twelve edges of a cell.
-fn cell_edges<'a>(cell: &'a Cell, corners: &'a [u16; 8]) -> impl Iterator<Item = EdgeKey> + 'a {
-    (0..3).flat_map(move |axis| {
-        let bit = 1 << axis;
-        let lower_places = (0..8).filter(move |place| place & bit == 0);
-        lower_places.map(move |place| EdgeKey::new(axis, cell.level, corners[place], corners[place | bit]))
-    })
+fn cell_edges(cell: &Cell, corners: &[u16; 8]) -> [EdgeKey; 12] {
+    CELL_EDGES.map(|(axis, lower)| EdgeKey::new(axis, cell.level, corners[lower], corners[lower | 1 << axis]))
 }
 
 fn starts(edges: &[TreeEdge], corner_count: usize) -> Vec<EdgeId> {

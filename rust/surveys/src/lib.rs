@@ -2,6 +2,7 @@
 //!
 //! - [`document`]: the surveys of document 01 and a few small ones, with what is known of their drawings.
 //! - [`generate`]: random lawful surveys, each from one seed.
+//! - [`sized`]: surveys of a given number of splits, a kind for each shape that a drawing may be slow on.
 //! - [`damage`]: random damaged surveys, each with the refusal it must meet.
 //! - [`refusals`], [`plain`], [`closing`]: document 01's checks, its edges and points, and its section "What
 //!   closing says", written for the reader and not for speed, and with nothing shared with any drawing.
@@ -14,6 +15,7 @@ mod long_loop;
 pub mod plain;
 pub mod random;
 pub mod refusals;
+pub mod sized;
 mod soundings;
 pub mod survey;
 mod trees;

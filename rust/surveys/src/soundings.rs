@@ -106,7 +106,8 @@ fn random_kind(random: &mut Random) -> Kind {
     }
 }
 
-fn distance(one: [u16; 3], other: [u16; 3]) -> f32 {
+/// How far two places are from each other.
+pub(crate) fn distance(one: [u16; 3], other: [u16; 3]) -> f32 {
     let squares = (0..3).map(|axis| u64::from(one[axis].abs_diff(other[axis])).pow(2));
     (squares.sum::<u64>() as f32).sqrt()
 }

@@ -1,4 +1,4 @@
-//! Random octrees of the shapes that have undone drawings: fine cells against coarse ones.
+//! Octrees: random ones of the shapes that have undone drawings, fine cells against coarse ones; and ones of a given number of splits.
 
 use std::collections::BTreeSet;
 
@@ -77,6 +77,20 @@ pub(crate) fn octree(random: &mut Random, most_splits: usize) -> Octree {
         growth.refine(random, aim);
     }
     Octree::new(|_, cube| growth.split.contains(&cube))
+}
+
+/// The octree of so many splits in which the leaf of lowest rank is split first. There must be leaves enough.
+pub(crate) fn ranked<Rank: Ord>(splits: usize, mut rank: impl FnMut(Cube) -> Rank) -> Octree {
+    let mut split = BTreeSet::new();
+    let mut leaves = BTreeSet::from([(rank(Cube::BOX), Cube::BOX)]);
+    while split.len() < splits {
+        let (_, cube) = leaves.pop_first().expect("a leaf that can be split is left");
+        if cube.size > 1 {
+            split.insert(cube);
+            leaves.extend(cube.children().into_iter().map(|child| (rank(child), child)));
+        }
+    }
+    Octree::new(|_, cube| split.contains(&cube))
 }
 
 struct Growth {

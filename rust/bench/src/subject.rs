@@ -1,0 +1,59 @@
+//! A survey to time calls on, with the slices lent to drawing and the edges to enquire about.
+
+use surveys::plain::octree;
+use surveys::Survey;
+
+/// How many edges are enquired about in turn.
+const ENQUIRIES: usize = 16;
+
+/// An edge to enquire about.
+#[derive(Clone, Copy, Debug)]
+pub struct Enquiry {
+    /// The axis, 0 to 2.
+    pub axis: u32,
+    /// The lower end.
+    pub low: [u32; 3],
+    /// The length.
+    pub length: u32,
+}
+
+/// A survey with all that the calls on it need.
+pub struct Subject {
+    pub survey: Survey,
+    pub enquiries: Vec<Enquiry>,
+    pub point_slice: Vec<f32>,
+    pub triangle_slice: Vec<u32>,
+}
+
+impl Subject {
+    /// A lawful survey, with slices that its drawing just fills.
+    pub fn new(survey: Survey) -> Subject {
+        let drawn = drawing::draw(&survey.cells, &survey.corners, survey.clearance, &mut [], &mut []);
+        Subject {
+            enquiries: enquiries(&survey),
+            survey,
+            point_slice: vec![0.0; 3 * drawn.points as usize],
+            triangle_slice: vec![0; 3 * drawn.triangles as usize],
+        }
+    }
+
+    /// How many points the drawing has.
+    pub fn points(&self) -> usize {
+        self.point_slice.len() / 3
+    }
+
+    /// How many triangles the drawing has.
+    pub fn triangles(&self) -> usize {
+        self.triangle_slice.len() / 3
+    }
+}
+
+/// Edges of cells from all over the cell table, on every axis.
+fn enquiries(survey: &Survey) -> Vec<Enquiry> {
+    let cubes = octree(&survey.cells).cubes;
+    let enquiry = |number: usize| {
+        let cube = cubes[number * cubes.len() / ENQUIRIES];
+        Enquiry { axis: number as u32 % 3, low: cube.low.map(u32::from), length: u32::from(cube.size) }
+    };
+    (0..ENQUIRIES).map(enquiry).collect()
+}

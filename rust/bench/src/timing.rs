@@ -1,0 +1,53 @@
+//! Two ways to do the same, timed one after the other in many rounds.
+
+use std::time::{Duration, Instant};
+
+/// A way is repeated until it takes this long, so that reading the clock costs nothing beside it.
+const SHORTEST: Duration = Duration::from_micros(100);
+
+/// The medians over all rounds.
+#[derive(Clone, Copy, Debug)]
+pub struct Timing {
+    /// The time of the proved call, in nanoseconds.
+    pub proved: f64,
+    /// The time of the Rust drawing's call, in nanoseconds.
+    pub rust: f64,
+    /// Proved by Rust, as seen in one round: what slows the machine down for a while slows both.
+    pub ratio: f64,
+}
+
+/// Times both ways, in so many rounds.
+pub fn interleaved(rounds: usize, mut proved: impl FnMut(), mut rust: impl FnMut()) -> Timing {
+    let repeats = [repeats(&mut proved), repeats(&mut rust)];
+    let seen: Vec<[f64; 2]> =
+        (0..rounds).map(|_| [mean(repeats[0], &mut proved), mean(repeats[1], &mut rust)]).collect();
+    Timing {
+        proved: median(seen.iter().map(|times| times[0])),
+        rust: median(seen.iter().map(|times| times[1])),
+        ratio: median(seen.iter().map(|times| times[0] / times[1])),
+    }
+}
+
+/// How often a way is repeated in a round; the way is warm then.
+fn repeats(way: &mut impl FnMut()) -> u32 {
+    let start = Instant::now();
+    let mut repeats = 0;
+    while start.elapsed() < SHORTEST {
+        way();
+        repeats += 1;
+    }
+    repeats
+}
+
+/// The mean time of some repeats, in nanoseconds.
+fn mean(repeats: u32, way: &mut impl FnMut()) -> f64 {
+    let start = Instant::now();
+    (0..repeats).for_each(|_| way());
+    start.elapsed().as_nanos() as f64 / f64::from(repeats)
+}
+
+fn median(numbers: impl Iterator<Item = f64>) -> f64 {
+    let mut numbers: Vec<f64> = numbers.collect();
+    numbers.sort_unstable_by(f64::total_cmp);
+    numbers[numbers.len() / 2]
+}

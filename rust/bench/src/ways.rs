@@ -1,0 +1,67 @@
+//! The two makers of document 01's calls, with answers that can be compared.
+
+use clearance::{Refusal, Refused};
+use surveys::Survey;
+
+use crate::subject::Enquiry;
+
+/// What drawing returns: the number, and the counts of points and triangles.
+pub type Counts = [u32; 3];
+
+/// The answer of an enquiry: a refusal's number, or the point of an odd edge.
+pub type Answer = Result<Option<(u32, [f32; 3])>, u32>;
+
+/// A maker of document 01's calls.
+pub trait Way {
+    /// Checks a survey.
+    fn check(survey: &Survey) -> u32;
+    /// Enquires about an edge.
+    fn enquire(survey: &Survey, enquiry: Enquiry) -> Answer;
+    /// Draws into lent slices.
+    fn draw(survey: &Survey, points: &mut [f32], triangles: &mut [u32]) -> Counts;
+}
+
+/// The proved library.
+pub struct Proved;
+
+impl Way for Proved {
+    fn check(survey: &Survey) -> u32 {
+        clearance::check(&survey.cells, &survey.corners).map_or_else(Refusal::number, |()| 0)
+    }
+
+    fn enquire(survey: &Survey, Enquiry { axis, low, length }: Enquiry) -> Answer {
+        match clearance::enquire(&survey.cells, &survey.corners, survey.clearance, axis, low, length) {
+            Ok(clearance::Edge::Even) => Ok(None),
+            Ok(clearance::Edge::Crossing { number, place }) => Ok(Some((number, place))),
+            Err(refusal) => Err(refusal.number()),
+        }
+    }
+
+    fn draw(survey: &Survey, points: &mut [f32], triangles: &mut [u32]) -> Counts {
+        match clearance::draw(&survey.cells, &survey.corners, survey.clearance, points, triangles) {
+            Ok(counts) => [0, counts.points, counts.triangles],
+            Err(Refused { refusal, counts }) => [refusal.number(), counts.points, counts.triangles],
+        }
+    }
+}
+
+/// The Rust drawing.
+pub struct Rust;
+
+impl Way for Rust {
+    fn check(survey: &Survey) -> u32 {
+        drawing::check(&survey.cells, &survey.corners)
+    }
+
+    fn enquire(survey: &Survey, Enquiry { axis, low: [x, y, z], length }: Enquiry) -> Answer {
+        match drawing::enquire(&survey.cells, &survey.corners, survey.clearance, axis, x, y, z, length)? {
+            drawing::Edge::Even => Ok(None),
+            drawing::Edge::Crossing { number, place } => Ok(Some((number, place))),
+        }
+    }
+
+    fn draw(survey: &Survey, points: &mut [f32], triangles: &mut [u32]) -> Counts {
+        let drawn = drawing::draw(&survey.cells, &survey.corners, survey.clearance, points, triangles);
+        [drawn.number, drawn.points, drawn.triangles]
+    }
+}
