@@ -56,16 +56,6 @@ module _ (a : Axis) (p : Place) (l key : ℕ) (k : key ≡ keyOf p) where
   pub above-upper : (r : ℕ) → isUpper a p l ≡ true → r ≡ key - 2 ^ l * keyUnit a → r ≡ keyOf (above a p l)
   above-upper r h e = back-key r h e ∙ ap (λ b. keyOf (cond b (back a (2 ^ l) p) p)) (sym h)
 
-  pub above-lower : isUpper a p l ≡ false → key ≡ keyOf (above a p l)
-  above-lower h = k ∙ ap (λ b. keyOf (cond b (back a (2 ^ l) p) p)) (sym h)
-
-  pub other-upper : (r : ℕ) → isUpper a p l ≡ true → r ≡ key - 2 ^ l * keyUnit a → r ≡ keyOf (other a p l)
-  other-upper r h e = back-key r h e ∙ ap (λ b. keyOf (cond b (back a (2 ^ l) p) (move a (2 ^ l) p))) (sym h)
-
-  pub other-lower : (r : ℕ) → isUpper a p l ≡ false → r ≡ key + 2 ^ l * keyUnit a → r ≡ keyOf (other a p l)
-  other-lower r h e =
-      e ∙ ap (λ n. n + 2 ^ l * keyUnit a) k ∙ sym (key-move a (2 ^ l) p) ∙ ap (λ b. keyOf (cond b (back a (2 ^ l) p) (move a (2 ^ l) p))) (sym h)
-
 -- the test of the code
 pub upper-read : (t : List ℕ) (k l v size : ℕ) (a : Axis) → k < length t / 10 → v ≡ along a (placeOf (cornerRecord t k)) → size ≡ 2 ^ l →
     eqb (v / size % 2) 1 ≡ isUpper a (placeAt (placesOf t) k) l

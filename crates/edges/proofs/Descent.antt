@@ -4,24 +4,22 @@ use mathlib.Core.Path.{_≡_, refl, sym, ap, _∙_, subst}
 use mathlib.Core.Bool.{Bool, true, false, not, _&&_, cond}
 use mathlib.Core.List.{List}
 use native.Mathlib.Omega.{arith}
-use lib.Dec.{T, ltb}
+use lib.Dec.{T, eqb, ltb}
 use lib.Ieee.{Float}
 use lib.ListN.{length, getD}
 use borrow.Author.Tests.{lt-ltb}
-use Rattle.base.specs.Lists.{any}
-use Rattle.base.specs.Grid.{Place, Axis, move, axisOf, same}
+use Rattle.base.specs.Grid.{Place, Axis, move, axisOf}
 use Rattle.base.proofs.Tests.{→true, true→}
 use Rattle.rules.specs.Survey.{cellsOf, cornersOf, wetAt, Survey}
 use Rattle.rules.specs.Edges.{CellEdge, edge, isEdge, odd, carrier, numberOf, pointOf}
 use Rattle.rules.specs.Outputs.{accepted, surveyOf}
-use Rattle.records.specs.Keys.{keyOf, placesOf, recordAt}
-use Rattle.records.proofs.Keys.{Bytes, length-places}
+use Rattle.records.specs.Keys.{placesOf}
+use Rattle.records.proofs.Keys.{length-places}
 use Rattle.octree.proofs.Halves.{one-odd-half}
-use Rattle.edges.specs.Tables.{placeAt, lowestLevel, crossedAt, crossedSlot, slotsBelow, slotEdge, Lowest, Numbers, OddEdge}
-use Rattle.edges.proofs.Find.{found}
+use Rattle.edges.specs.Tables.{placeAt, lowestLevel, crossedAt, crossedSlot, slotsBelow, slotEdge, Lowest, Wets, OddEdge, UpperEnd, CarrierSlot}
 use Rattle.edges.proofs.Levels.{edge→levels, carrier-here, carrier-below, halves-below}
 use Rattle.edges.proofs.Points.{slot-is, edge-is, slot-number}
-use Rattle.edges.proofs.Readings.{corners, edges-law, few-places, lowest-read}
+use Rattle.edges.proofs.Readings.{edges-law, few-places, lowest-read, odd-read}
 
 crossed-here : (s : Survey) (a : Axis) (p : Place) (l : ℕ) → l ≡ lowestLevel s a p → l ≤ 10 → T (odd (s .isWet) a p l) → crossedAt s a p ≡ true
 unfolding crossedAt
@@ -58,10 +56,8 @@ module _ (tc tk : List ℕ) (clearance : Float) (ok : accepted tc tk clearance �
     unfolding surveyOf
     both = halves-below s (edges-law tc tk clearance ok) a (at k) l whole above-lowest
 
-    -- the middle is on the corner table
-    pub middle-listed : T (any (same (move (axisOf n) (2 ^ l) (placeAt (placesOf tk) k))) (placesOf tk))
-    unfolding surveyOf
-    middle-listed = edges-law tc tk clearance ok .lower-end a (move a (2 ^ l) (at k)) l (both .1)
+    pub lower-half : T (isEdge (cellsOf tc) (axisOf n) (placeAt (placesOf tk) k) l)
+    lower-half = both .0
 
     split-at : carrier (surveyOf tc tk clearance) a (at k) m ≡
         cond (odd (wetAt (cornersOf tk) clearance) a (at k) l) (carrier (surveyOf tc tk clearance) a (at k) l)
@@ -73,32 +69,29 @@ module _ (tc tk : List ℕ) (clearance : Float) (ok : accepted tc tk clearance �
     upper-odd =
         one-odd-half (wetAt (cornersOf tk) clearance) a (at k) l (subst (λ (j : ℕ). T (odd (wetAt (cornersOf tk) clearance) a (at k) j)) q (o .is-odd))
 
-    -- one step down
-    pub down : (b : Bytes tk) (r : ℕ) →
-        r ≡ cond (odd (wetAt (cornersOf tk) clearance) (axisOf n) (placeAt (placesOf tk) k) l) k
-        (recordAt tk (keyOf (move (axisOf n) (2 ^ l) (placeAt (placesOf tk) k)))) →
+    -- one step down, by the marks at the edge's start and at its middle
+    pub down : (wets : List ℕ) → Wets tk clearance wets → (w r : ℕ) → UpperEnd tk (axisOf n) k l w →
+        r ≡ cond (not (eqb (getD wets k 0) (getD wets w 0))) k w →
         OddEdge tc tk clearance (axisOf n) r l ×
         (carrier (surveyOf tc tk clearance) (axisOf n) (placeAt (placesOf tk) r) l ≡ carrier (surveyOf tc tk clearance) (axisOf n) (placeAt (placesOf tk) k) m)
-    down b r e = go (odd (wetAt (cornersOf tk) clearance) a (at k) l) refl e split-at upper-odd
+    down wets t w r u e =
+        go (odd (wetAt (cornersOf tk) clearance) a (at k) l) refl (e ∙ ap (λ b. cond b k w) (odd-read tk clearance wets t a k w l (o .inside) u)) split-at upper-odd
       where
-        f : (recordAt tk (keyOf (move a (2 ^ l) (at k))) < length tk / 10) × (at (recordAt tk (keyOf (move a (2 ^ l) (at k)))) ≡ move a (2 ^ l) (at k))
-        f = found tk b (corners tc tk clearance ok .rises) (move a (2 ^ l) (at k)) middle-listed
-
-        go : (t : Bool) → odd (wetAt (cornersOf tk) clearance) a (at k) l ≡ t → r ≡ cond t k (recordAt tk (keyOf (move a (2 ^ l) (at k)))) →
+        go : (t : Bool) → odd (wetAt (cornersOf tk) clearance) a (at k) l ≡ t → r ≡ cond t k w →
             carrier (surveyOf tc tk clearance) a (at k) m ≡ cond t (carrier (surveyOf tc tk clearance) a (at k) l)
             (carrier (surveyOf tc tk clearance) a (move a (2 ^ l) (at k)) l) →
             odd (wetAt (cornersOf tk) clearance) a (move a (2 ^ l) (at k)) l ≡ not t →
             OddEdge tc tk clearance (axisOf n) r l × (carrier (surveyOf tc tk clearance) a (at r) l ≡ carrier (surveyOf tc tk clearance) a (at k) m)
-        go true t e c u =
+        go true t e c v =
             subst (λ (j : ℕ). OddEdge tc tk clearance (axisOf n) j l × (carrier (surveyOf tc tk clearance) a (at j) l ≡ carrier (surveyOf tc tk clearance) a
             (at k) m)) (sym e)
             (record { inside = o .inside; is-edge = both .0; is-odd = →true t }, sym c)
-        go false t e c u =
-            let p : at r ≡ move a (2 ^ l) (at k) = ap at e ∙ f .1 in (
+        go false t e c v =
+            let p : at r ≡ move a (2 ^ l) (at k) = ap at e ∙ u .place in (
               record {
-                inside = omega (arith, f .0, e);
+                inside = omega (arith, u .inside, e);
                 is-edge = subst (λ (x : Place). T (isEdge (cellsOf tc) a x l)) (sym p) (both .1);
-                is-odd = →true (ap (λ (x : Place). odd (wetAt (cornersOf tk) clearance) a x l) p ∙ u);
+                is-odd = →true (ap (λ (x : Place). odd (wetAt (cornersOf tk) clearance) a x l) p ∙ v);
               },
               ap (λ (x : Place). carrier (surveyOf tc tk clearance) a x l) p ∙ sym c,
             )
@@ -128,20 +121,23 @@ module _ (tc tk : List ℕ) (clearance : Float) (ok : accepted tc tk clearance �
         edge-is s n k (4872 * n + k) refl (omega (arith, length-places tk)) ∙ ap (edge a (at k)) (sym at-lowest) ∙
         sym (carrier-here s (edges-law tc tk clearance ok) a (at k) l (o .is-edge) (omega (arith, at-lowest)))
 
-    pub number-here : (numbers : List ℕ) → Numbers (surveyOf tc tk clearance) numbers →
-        getD numbers (4872 * n + k) 0 ≡ numberOf (surveyOf tc tk clearance) (carrier (surveyOf tc tk clearance) (axisOf n) (placeAt (placesOf tk) k) l)
-    unfolding surveyOf
-    number-here numbers t =
-        let few = few-places tc tk clearance ok in
-        let i = o .inside in
-        let inside : 4872 * n + k < 14616 = omega (arith, length-places tk) in
-        t .entry (4872 * n + k) inside ∙ sym (slot-number s (edges-law tc tk clearance ok) few (4872 * n + k) inside crossed-slot) ∙ ap (numberOf s) edge-here
-
-  -- the number at the end of the way down
-  pub point-found : (k l k₀ l₀ : ℕ) → OddEdge tc tk clearance (axisOf n) k l → l ≤ getD lowest (4872 * n + k) 0 → (numbers : List ℕ) →
-      Numbers (surveyOf tc tk clearance) numbers →
+  -- the slot at the end of the way down
+  pub slot-found : (k l k₀ l₀ : ℕ) → OddEdge tc tk clearance (axisOf n) k l → l ≤ getD lowest (4872 * n + k) 0 →
       carrier (surveyOf tc tk clearance) (axisOf n) (placeAt (placesOf tk) k) l ≡ carrier (surveyOf tc tk clearance) (axisOf n) (placeAt (placesOf tk) k₀) l₀ →
-      getD numbers (4872 * n + k) 0 ≡ pointOf (surveyOf tc tk clearance) (edge (axisOf n) (placeAt (placesOf tk) k₀) l₀)
-  point-found k l k₀ l₀ o h numbers t e =
-      number-here k l o h numbers t ∙ ap (numberOf (surveyOf tc tk clearance)) e ∙ sym
-      (point-is (surveyOf tc tk clearance) (edge (axisOf n) (placeAt (placesOf tk) k₀) l₀))
+      CarrierSlot (surveyOf tc tk clearance) (axisOf n) (placeAt (placesOf tk) k₀) l₀ (4872 * n + k)
+  unfolding surveyOf
+  slot-found k l k₀ l₀ o h e =
+      let few = few-places tc tk clearance ok in
+      let i = o .inside in
+      record { inside = omega (arith, length-places tk); crossed = →true (crossed-slot k l o h); carries = edge-here k l o h ∙ e }
+
+-- the number of the point that the slot carries
+module _ (tc tk : List ℕ) (clearance : Float) (ok : accepted tc tk clearance ≡ true) (a : Axis) (p : Place) (l i : ℕ)
+    (c : CarrierSlot (surveyOf tc tk clearance) a p l i) where
+  pub slot-numbers : length (slotsBelow (surveyOf tc tk clearance) i) ≡ numberOf (surveyOf tc tk clearance) (carrier (surveyOf tc tk clearance) a p l)
+  slot-numbers =
+      sym (slot-number (surveyOf tc tk clearance) (edges-law tc tk clearance ok) (few-places tc tk clearance ok) i (c .inside)
+      (true→ (crossedSlot (surveyOf tc tk clearance) i) (c .crossed))) ∙ ap (numberOf (surveyOf tc tk clearance)) (c .carries)
+
+  pub slot-point-of : length (slotsBelow (surveyOf tc tk clearance) i) ≡ pointOf (surveyOf tc tk clearance) (edge a p l)
+  slot-point-of = slot-numbers ∙ sym (point-is (surveyOf tc tk clearance) (edge a p l))

@@ -24,13 +24,8 @@ use Rattle.octree.proofs.Lawful.{Lawful}
 use Rattle.octree.proofs.Accepted.{Checked, checked, accepted→, lawful, numbered, first-append}
 use Rattle.octree.proofs.Edges.{edge→}
 use Rattle.octree.proofs.Aligned.{corner-place}
-use Rattle.octree.proofs.Halves.{carrier-crossed}
-use Rattle.octree.proofs.Points.{crossed-carries}
-use Rattle.edges.specs.Tables.{placeAt, slotsBelow, slotEdge, Lowest, Slots, OddEdge, Sought}
 use Rattle.edges.specs.Enquiry.{edgeAnswer}
-use Rattle.edges.proofs.Readings.{edges-law}
-use Rattle.edges.proofs.Descent.{point-is}
-use Rattle.edges.proofs.TwinSlots.{points-slots, point-edge-is}
+use Rattle.edges.proofs.Readings.{no-refusal}
 
 -- ---- the level of a length
 
@@ -96,22 +91,11 @@ module _ (tc tk : List ℕ) (clearance : Float) (ok : accepted tc tk clearance �
   law : Lawful (surveyOf tc tk clearance)
   law = lawful tc tk clearance (→true ok)
 
-  pub no-refusal : surveyRefusal tc tk ≡ 0
-  no-refusal = accepted→ tc tk clearance (→true ok) .0
-
   pub entries-good : entriesRight 0 0 (entries tc) ≡ true
-  entries-good = true→ (entriesRight 0 0 (entries tc)) (checked tc tk no-refusal .entries-right)
+  entries-good = true→ (entriesRight 0 0 (entries tc)) (checked tc tk (no-refusal tc tk clearance ok) .entries-right)
 
   pub none-deep : any tooDeep (cellsOf tc) ≡ false
-  none-deep = false→ (any tooDeep (cellsOf tc)) (checked tc tk no-refusal .units-whole)
-
-  pub edge-shallow : (a : Axis) (q : Place) (l : ℕ) → T (isEdge (cellsOf tc) a q l) → l ≤ 10
-  unfolding surveyOf
-  edge-shallow a q l t = edges-law tc tk clearance ok .shallow a q l t
-
-  pub upper-listed : (a : Axis) (q : Place) (l : ℕ) → T (isEdge (cellsOf tc) a q l) → T (any (same (move a (2 ^ l) q)) (placesOf tk))
-  unfolding surveyOf
-  upper-listed a q l t = edges-law tc tk clearance ok .upper-end a q l t
+  none-deep = false→ (any tooDeep (cellsOf tc)) (checked tc tk (no-refusal tc tk clearance ok) .units-whole)
 
   -- no edge starts outside the box
   pub far-off : (a b : Axis) (p : Place) (l : ℕ) → 1024 < along b p → isEdge (cellsOf tc) a p l ≡ false
@@ -123,31 +107,6 @@ module _ (tc tk : List ℕ) (clearance : Float) (ok : accepted tc tk clearance �
           let (q, c, e, f) = edge→ (cellsOf tc) a p l t in
           absurd (omega (arith, corner-place (cellsOf tc) (law .octree) l q p c f b .1))
       go (inr e) = e
-
-  -- the point of an odd edge by its number: its slot
-  module _ (lowest : List ℕ) (low : Lowest tc tk lowest) (a : Axis) (k l : ℕ) (o : OddEdge tc tk clearance a k l) (n : ℕ)
-      (e : n ≡ pointOf (surveyOf tc tk clearance) (edge a (placeAt (placesOf tk) k) l)) where
-    abbrev c : CellEdge
-    c = carrier (surveyOf tc tk clearance) a (placeAt (placesOf tk) k) l
-
-    pub number-is : n ≡ numberOf (surveyOf tc tk clearance) (carrier (surveyOf tc tk clearance) a (placeAt (placesOf tk) k) l)
-    number-is = e ∙ point-is (surveyOf tc tk clearance) (edge a (placeAt (placesOf tk) k) l)
-
-    carried : (numberOf (surveyOf tc tk clearance) c < length (pointEdges (surveyOf tc tk clearance))) ×
-        (getD (pointEdges (surveyOf tc tk clearance)) (numberOf (surveyOf tc tk clearance) c) c ≡ c)
-    unfolding surveyOf
-    carried =
-        crossed-carries (surveyOf tc tk clearance) law c
-        (carrier-crossed (surveyOf tc tk clearance) (law .octree) a (placeAt (placesOf tk) k) l (o .is-edge) (o .is-odd))
-
-    pub number-inside : n < length (slotsBelow (surveyOf tc tk clearance) 14616)
-    number-inside = omega (arith, number-is, carried .0, points-slots tc tk clearance ok lowest low)
-
-    pub slot-carries : (slots : List ℕ) → Slots (surveyOf tc tk clearance) slots →
-        slotEdge (surveyOf tc tk clearance) (getD slots n 0) ≡ carrier (surveyOf tc tk clearance) a (placeAt (placesOf tk) k) l
-    slot-carries slots at =
-        sym (point-edge-is tc tk clearance ok lowest low slots at n number-inside c) ∙
-        ap (λ m. getD (pointEdges (surveyOf tc tk clearance)) m c) number-is ∙ carried .1
 
 -- ---- the order of the refusals
 

@@ -1,30 +1,30 @@
--- Noting edges in the tables of levels: one edge, the four of a cell on an axis, those of a cell, those of all cells.
+-- Noting edges in the tables of levels and upper ends: one edge, those of a cell one after another, those of all cells.
 use Prim.Native.Nat.{ℕ, zero, suc, _+_, _*_, _/_, _^_, _≤_, _<_, min, max}
 use mathlib.Core.Path.{_≡_, refl, sym, ap, _∙_, subst}
 use mathlib.Core.Logic.{_⊎_, inl, inr}
 use mathlib.Core.Bool.{Bool, true, false, _&&_, cond}
-use mathlib.Core.List.{List, [], _∷_, _++_, append-assoc}
+use mathlib.Core.List.{List, [], _∷_, _++_}
 use native.Mathlib.Decide.{ℕ-discrete}
 use native.Mathlib.Omega.{arith}
-use lib.Dec.{T, eqb, eqb→eq}
+use lib.Dec.{T, eqb, eqb→eq, ltb, ltb→lt}
 use lib.ListN.{length, getD, set, drop, length-set, replicate, length-replicate, getD-replicate}
-use lib.Seq.{getD-set-same, getD-set-other, drop-cons}
-use Rattle.base.specs.Lists.{any, collect}
-use Rattle.base.specs.Grid.{Place, origin, Axis, X, Y, Z, next, along, move, axisOf, axisNumber, same}
-use Rattle.base.proofs.Tests.{and→, either, true→}
-use Rattle.base.proofs.Places.{same→, square}
-use Rattle.base.proofs.Lists.{In}
-use Rattle.rules.specs.Survey.{Cell, size, cell}
+use lib.Seq.{getD-set-same, getD-set-other}
+use borrow.Author.Tests.{lt-ltb, le-ltb}
+use Rattle.base.specs.Lists.{collect}
+use Rattle.base.specs.Grid.{Place, origin, Axis, X, move, axisOf, axisNumber, same, octants}
+use Rattle.base.proofs.Tests.{and→, either, true→, below}
+use Rattle.base.proofs.Places.{same→}
+use Rattle.base.proofs.Below.{rest}
+use Rattle.rules.specs.Survey.{Cell, size}
 use Rattle.rules.specs.Edges.{CellEdge, edge}
-use Rattle.rules.specs.Closing.{cellEdgesOn}
 use Rattle.rules.specs.Outputs.{rising}
-use Rattle.records.specs.Keys.{keyOf, placesOf, recordAt}
+use Rattle.records.specs.Keys.{placesOf}
 use Rattle.records.proofs.Keys.{Bytes, length-places}
-use Rattle.octree.proofs.Lawful.{CornerOf}
-use Rattle.edges.specs.Tables.{cellEdges, edgesOf, startsAt, lowestIn, highestIn, placeAt, Tabled, Levels}
-use Rattle.edges.specs.Noting.{keyUnit, Noted, Cornered}
-use Rattle.edges.proofs.Starts.{→start, square-corner}
-use Rattle.edges.proofs.Find.{key-move, found, one-record}
+use Rattle.cells.specs.Laid.{cellAt}
+use Rattle.octants.specs.Octants.{Octant, Octants, octantOf}
+use Rattle.edges.specs.Tables.{cellEdges, edgesOf, startsAt, lowestIn, highestIn, placeAt, Tabled, UpperEnd, FarEnds, Levels}
+use Rattle.edges.proofs.Starts.{→start}
+use Rattle.edges.proofs.Find.{one-record}
 
 axis-number : (n m : ℕ) → n < 3 → m < 3 → axisNumber (axisOf n) ≡ axisNumber (axisOf m) → n ≡ m
 axis-number zero zero g h e = refl
@@ -43,48 +43,6 @@ axis-number (suc (suc (suc n))) m g h e = absurd (omega arith)
 
 -- ---- one edge
 
--- A table of f over the edges, where one more edge changes f by `take` at its start, and nowhere else.
-module _ (take : ℕ → ℕ → ℕ) (f : List CellEdge → Axis → Place → ℕ)
-    (step : (e : CellEdge) (es : List CellEdge) (a : Axis) (p : Place) → f (e ∷ es) a p ≡ cond (startsAt a p e) (take (e .level) (f es a p)) (f es a p)) where
-  tabled-more : (places : List Place) → length places ≤ 4872 →
-      ((j k : ℕ) → j < length places → k < length places → placeAt places j ≡ placeAt places k → j ≡ k) →
-      (es : List CellEdge) (table : List ℕ) → Tabled places (f es) table → (n k l : ℕ) → n < 3 → k < length places →
-      Tabled places (f (edge (axisOf n) (placeAt places k) l ∷ es)) (set table (4872 * n + k) (take l (getD table (4872 * n + k) 0)))
-  tabled-more places few apart es table t n k l g h = record {
-    size = length-set table (4872 * n + k) (take l (getD table (4872 * n + k) 0)) ∙ t .size;
-    entry = λ m j p q. go m j p q (ℕ-discrete (4872 * m + j) (4872 * n + k)) (either (startsAt (axisOf m) (placeAt places j) e));
-  }
-    where
-      e : CellEdge
-      e = edge (axisOf n) (placeAt places k) l
-
-      v : ℕ
-      v = take l (getD table (4872 * n + k) 0)
-
-      here : (m j : ℕ) → m ≡ n → j ≡ k → startsAt (axisOf m) (placeAt places j) e ≡ true
-      here m j q r = rw (q, r) (true→ (startsAt (axisOf n) (placeAt places k) e) (→start (axisOf n) (placeAt places k) l))
-
-      go : (m j : ℕ) → m < 3 → j < length places → Dec (4872 * m + j ≡ 4872 * n + k) →
-          T (startsAt (axisOf m) (placeAt places j) e) ⊎ (startsAt (axisOf m) (placeAt places j) e ≡ false) →
-          getD (set table (4872 * n + k) v) (4872 * m + j) 0 ≡ f (e ∷ es) (axisOf m) (placeAt places j)
-      go m j p q (yes s) u =
-          let a : m ≡ n = omega arith in
-          let c : j ≡ k = omega arith in
-          let z = t .size in
-          ap (λ i. getD (set table (4872 * n + k) v) i 0) s ∙ getD-set-same table (4872 * n + k) v 0 (omega arith) ∙
-          ap (take l) (t .entry n k g h) ∙
-          (λ i. take l (f es (axisOf (sym a i)) (placeAt places (sym c i)))) ∙
-          sym (step e es (axisOf m) (placeAt places j) ∙ ap (λ b. cond b (take l (f es (axisOf m) (placeAt places j))) (f es (axisOf m) (placeAt places j)))
-          (here m j a c))
-      go m j p q (no s) (inl u) =
-          let w = and→ (same (placeAt places j) (placeAt places k)) (eqb (axisNumber (axisOf m)) (axisNumber (axisOf n))) u in
-          let c = apart j k q h (same→ (placeAt places j) (placeAt places k) (w .0)) in
-          let a = axis-number m n p g (eqb→eq (axisNumber (axisOf m)) (axisNumber (axisOf n)) (w .1)) in
-          absurd (s (λ i. 4872 * a i + c i))
-      go m j p q (no s) (inr u) =
-          getD-set-other table (4872 * n + k) (4872 * m + j) v 0 s ∙ t .entry m j p q ∙
-          sym (step e es (axisOf m) (placeAt places j) ∙ ap (λ b. cond b (take l (f es (axisOf m) (placeAt places j))) (f es (axisOf m) (placeAt places j))) u)
-
 low-step : (e : CellEdge) (es : List CellEdge) (a : Axis) (p : Place) →
     lowestIn (e ∷ es) a p ≡ cond (startsAt a p e) (min (e .level) (lowestIn es a p)) (lowestIn es a p)
 unfolding lowestIn
@@ -95,113 +53,240 @@ high-step : (e : CellEdge) (es : List CellEdge) (a : Axis) (p : Place) →
 unfolding highestIn
 high-step e es a p = refl
 
-module _ (t : List ℕ) (b : Bytes t) (up : rising (placesOf t) ≡ true) (few : length t ≤ 48720) where
-  -- the record found for a listed place, on axis n
-  pub note-one : (p : Place) → T (any (same p) (placesOf t)) → (n l : ℕ) → n < 3 → (lowest highest : List ℕ) →
-      Noted (placesOf t) (edge (axisOf n) p l ∷ []) lowest highest
-      (set lowest (4872 * n + recordAt t (keyOf p)) (min l (getD lowest (4872 * n + recordAt t (keyOf p)) 0)))
-      (set highest (4872 * n + recordAt t (keyOf p)) (max l (getD highest (4872 * n + recordAt t (keyOf p)) 0)))
-  note-one p u n l h lowest highest =
-      let k = recordAt t (keyOf p) in
-      let r = found t b up p u in
-      let len = length-places t in
-      let g : k < length (placesOf t) = omega (arith, r .0) in
-      let small : length (placesOf t) ≤ 4872 = omega arith in
-      let apart : (j i : ℕ) → j < length (placesOf t) → i < length (placesOf t) → placeAt (placesOf t) j ≡ placeAt (placesOf t) i → j ≡ i =
-      λ j i x y. one-record t b up j i (omega arith) (omega arith) in
-      record {
-        low-size = length-set lowest (4872 * n + k) (min l (getD lowest (4872 * n + k) 0));
-        high-size = length-set highest (4872 * n + k) (max l (getD highest (4872 * n + k) 0));
-        adds = λ es v. record {
-          low = subst (λ q. Tabled (placesOf t) (lowestIn (edge (axisOf n) q l ∷ es)) (set lowest (4872 * n + k) (min l (getD lowest (4872 * n + k) 0)))) (r .1)
-              (tabled-more min lowestIn low-step (placesOf t) small apart es lowest (v .low) n k l h g);
-          high = subst (λ q. Tabled (placesOf t) (highestIn (edge (axisOf n) q l ∷ es))
-              (set highest (4872 * n + k) (max l (getD highest (4872 * n + k) 0)))) (r .1)
-              (tabled-more max highestIn high-step (placesOf t) small apart es highest (v .high) n k l h g);
-        };
-      }
+-- One more edge, of level l, from corner record k on, on axis n.
+module _ (tk : List ℕ) (b : Bytes tk) (up : rising (placesOf tk) ≡ true) (few : length tk / 10 ≤ 4872) (n k l : ℕ) (g : n < 3) (h : k < length tk / 10) where
+  abbrev new : CellEdge
+  new = edge (axisOf n) (placeAt (placesOf tk) k) l
 
-  -- the same with what the code has at hand: the key, the record found, the two levels stored
-  pub note-found : (p : Place) (key : ℕ) → key ≡ keyOf p → T (any (same p) (placesOf t)) → (n l : ℕ) → n < 3 → (lowest highest : List ℕ) (k v w : ℕ) →
-      k ≡ recordAt t key → v ≡ min l (getD lowest (4872 * n + k) 0) → w ≡ max l (getD highest (4872 * n + k) 0) →
-      Noted (placesOf t) (edge (axisOf n) p l ∷ []) lowest highest (set lowest (4872 * n + k) v) (set highest (4872 * n + k) w)
-  note-found p key e u n l h lowest highest k v w q x y = rw (x, y, q, e) (note-one p u n l h lowest highest)
+  starts-here : startsAt (axisOf n) (placeAt (placesOf tk) k) new ≡ true
+  starts-here = true→ (startsAt (axisOf n) (placeAt (placesOf tk) k) new) (→start (axisOf n) (placeAt (placesOf tk) k) l)
 
--- ---- several edges
+  -- a slot is that of the edge, or the edge does not start there
+  slot-or-not : (m j : ℕ) → m < 3 → j < length tk / 10 →
+      ((m ≡ n) × (j ≡ k)) ⊎ ((4872 * m + j ≡ 4872 * n + k → ⊥) × (startsAt (axisOf m) (placeAt (placesOf tk) j) new ≡ false))
+  slot-or-not m j p q = go (ℕ-discrete (4872 * m + j) (4872 * n + k)) (either (startsAt (axisOf m) (placeAt (placesOf tk) j) new))
+    where
+      go : Dec (4872 * m + j ≡ 4872 * n + k) →
+          T (startsAt (axisOf m) (placeAt (placesOf tk) j) new) ⊎ (startsAt (axisOf m) (placeAt (placesOf tk) j) new ≡ false) →
+          ((m ≡ n) × (j ≡ k)) ⊎ ((4872 * m + j ≡ 4872 * n + k → ⊥) × (startsAt (axisOf m) (placeAt (placesOf tk) j) new ≡ false))
+      go (yes s) u = inl (omega arith, omega arith)
+      go (no s) (inl u) =
+          let w = and→ (same (placeAt (placesOf tk) j) (placeAt (placesOf tk) k)) (eqb (axisNumber (axisOf m)) (axisNumber (axisOf n))) u in
+          let c = one-record tk b up j k q h (same→ (placeAt (placesOf tk) j) (placeAt (placesOf tk) k) (w .0)) in
+          let a = axis-number m n p g (eqb→eq (axisNumber (axisOf m)) (axisNumber (axisOf n)) (w .1)) in
+          absurd (s (λ i. 4872 * a i + c i))
+      go (no s) (inr u) = inr (s, u)
 
-module _ (places : List Place) where
-  -- one noting after another
-  pub noted-then : (new newer : List CellEdge) (l₀ h₀ l₁ h₁ l₂ h₂ : List ℕ) → Noted places new l₀ h₀ l₁ h₁ → Noted places newer l₁ h₁ l₂ h₂ →
-      Noted places (newer ++ new) l₀ h₀ l₂ h₂
-  noted-then new newer l₀ h₀ l₁ h₁ l₂ h₂ u v = record {
-    low-size = v .low-size ∙ u .low-size;
-    high-size = v .high-size ∙ u .high-size;
-    adds = λ es w. subst (λ fs. Levels places fs l₂ h₂) (sym (append-assoc newer new es)) (v .adds (new ++ es) (u .adds es w));
+  -- a table of f over the edges, where the edge changes f by `take` at its start
+  tabled-more : (take : ℕ → ℕ → ℕ) (f : List CellEdge → Axis → Place → ℕ) →
+      ((e : CellEdge) (es : List CellEdge) (a : Axis) (p : Place) → f (e ∷ es) a p ≡ cond (startsAt a p e) (take (e .level) (f es a p)) (f es a p)) →
+      (es : List CellEdge) (table : List ℕ) → Tabled (placesOf tk) (f es) table →
+      Tabled (placesOf tk) (f (edge (axisOf n) (placeAt (placesOf tk) k) l ∷ es)) (set table (4872 * n + k) (take l (getD table (4872 * n + k) 0)))
+  tabled-more take f step es table t = record {
+    size = length-set table (4872 * n + k) (take l (getD table (4872 * n + k) 0)) ∙ t .size;
+    entry = λ m j p q. let i : j < length tk / 10 = omega (arith, length-places tk) in go m j p q (slot-or-not m j p i);
+  }
+    where
+      v : ℕ
+      v = take l (getD table (4872 * n + k) 0)
+
+      branch : Axis → Place → Bool → ℕ
+      branch a p c = cond c (take l (f es a p)) (f es a p)
+
+      here : getD (set table (4872 * n + k) v) (4872 * n + k) 0 ≡ f (new ∷ es) (axisOf n) (placeAt (placesOf tk) k)
+      here =
+          let z = t .size in
+          getD-set-same table (4872 * n + k) v 0 (omega arith) ∙ ap (take l) (t .entry n k g (omega (arith, length-places tk))) ∙
+          sym (step new es (axisOf n) (placeAt (placesOf tk) k) ∙ ap (branch (axisOf n) (placeAt (placesOf tk) k)) starts-here)
+
+      go : (m j : ℕ) → m < 3 → j < length (placesOf tk) →
+          ((m ≡ n) × (j ≡ k)) ⊎ ((4872 * m + j ≡ 4872 * n + k → ⊥) × (startsAt (axisOf m) (placeAt (placesOf tk) j) new ≡ false)) →
+          getD (set table (4872 * n + k) v) (4872 * m + j) 0 ≡ f (new ∷ es) (axisOf m) (placeAt (placesOf tk) j)
+      go m j p q (inl (x, y)) = rw (x, y) here
+      go m j p q (inr (s, u)) =
+          getD-set-other table (4872 * n + k) (4872 * m + j) v 0 s ∙ t .entry m j p q ∙
+          sym (step new es (axisOf m) (placeAt (placesOf tk) j) ∙ ap (branch (axisOf m) (placeAt (placesOf tk) j)) u)
+
+  -- the table of upper ends, where m is that of the edge, and `low` the lowest level before
+  module _ (es : List CellEdge) (far : List ℕ) (t : FarEnds tk es far) (m low : ℕ) (e : low ≡ lowestIn es (axisOf n) (placeAt (placesOf tk) k))
+      (u : UpperEnd tk (axisOf n) k l m) where
+    abbrev new-end : ℕ
+    new-end = cond (ltb l low) m (getD far (4872 * n + k) 0)
+
+    low-here : lowestIn (new ∷ es) (axisOf n) (placeAt (placesOf tk) k) ≡ min l low
+    low-here =
+        low-step new es (axisOf n) (placeAt (placesOf tk) k) ∙
+        ap (λ c. cond c (min l (lowestIn es (axisOf n) (placeAt (placesOf tk) k))) (lowestIn es (axisOf n) (placeAt (placesOf tk) k))) starts-here ∙
+        ap (min l) (sym e)
+
+    end-here : min l low < 11 → UpperEnd tk (axisOf n) k (min l low) new-end
+    end-here o = go (below l low)
+      where
+        go : (l < low) ⊎ (low ≤ l) → UpperEnd tk (axisOf n) k (min l low) new-end
+        go (inl s) = let q : l ≡ min l low = omega arith in rw (lt-ltb l low s) (subst (λ i. UpperEnd tk (axisOf n) k i m) q u)
+        go (inr s) =
+            let q : lowestIn es (axisOf n) (placeAt (placesOf tk) k) ≡ min l low = omega arith in
+            rw (le-ltb l low s) (subst (λ i. UpperEnd tk (axisOf n) k i (getD far (4872 * n + k) 0)) q (t .entry n k g h (omega arith)))
+
+    ends-more : FarEnds tk (edge (axisOf n) (placeAt (placesOf tk) k) l ∷ es) (set far (4872 * n + k) (cond (ltb l low) m (getD far (4872 * n + k) 0)))
+    ends-more = record {
+      size = length-set far (4872 * n + k) new-end ∙ t .size;
+      entry = λ i j p q. go i j p q (slot-or-not i j p q);
+    }
+      where
+        at : ℕ → ℕ → Type 0
+        at i j =
+            lowestIn (new ∷ es) (axisOf i) (placeAt (placesOf tk) j) < 11 →
+            UpperEnd tk (axisOf i) j (lowestIn (new ∷ es) (axisOf i) (placeAt (placesOf tk) j)) (getD (set far (4872 * n + k) new-end) (4872 * i + j) 0)
+
+        here : at n k
+        here o =
+            let z = t .size in
+            rw (low-here, getD-set-same far (4872 * n + k) new-end 0 (omega arith)) (end-here (omega (arith, low-here)))
+
+        go : (i j : ℕ) → i < 3 → j < length tk / 10 →
+            ((i ≡ n) × (j ≡ k)) ⊎ ((4872 * i + j ≡ 4872 * n + k → ⊥) × (startsAt (axisOf i) (placeAt (placesOf tk) j) new ≡ false)) → at i j
+        go i j p q (inl (x, y)) = rw (x, y) here
+        go i j p q (inr (s, c)) = λ o.
+            let r : lowestIn (new ∷ es) (axisOf i) (placeAt (placesOf tk) j) ≡ lowestIn es (axisOf i) (placeAt (placesOf tk) j) =
+            low-step new es (axisOf i) (placeAt (placesOf tk) j) ∙
+            ap (λ d. cond d (min l (lowestIn es (axisOf i) (placeAt (placesOf tk) j))) (lowestIn es (axisOf i) (placeAt (placesOf tk) j))) c in
+            rw (r, getD-set-other far (4872 * n + k) (4872 * i + j) new-end 0 s) (t .entry i j p q (omega arith))
+
+  -- all three tables, as the code changes them
+  pub note-one : (m : ℕ) → UpperEnd tk (axisOf n) k l m → (es : List CellEdge) (lowest highest far : List ℕ) → Levels tk es lowest highest far →
+      Levels tk (edge (axisOf n) (placeAt (placesOf tk) k) l ∷ es)
+      (set lowest (4872 * n + k) (min l (getD lowest (4872 * n + k) 0)))
+      (set highest (4872 * n + k) (max l (getD highest (4872 * n + k) 0)))
+      (set far (4872 * n + k) (cond (ltb l (getD lowest (4872 * n + k) 0)) m (getD far (4872 * n + k) 0)))
+  note-one m u es lowest highest far v = record {
+    low = tabled-more min lowestIn low-step es lowest (v .low);
+    high = tabled-more max highestIn high-step es highest (v .high);
+    ends = ends-more es far (v .ends) m (getD lowest (4872 * n + k) 0) (v .low .entry n k g (omega (arith, length-places tk))) u;
   }
 
-  pub levels-same : (es fs : List CellEdge) (lowest highest : List ℕ) → es ≡ fs → Levels places es lowest highest → Levels places fs lowest highest
-  levels-same es fs lowest highest e v = subst (λ gs. Levels places gs lowest highest) e v
+pub levels-same : (tk : List ℕ) (es fs : List CellEdge) (lowest highest far : List ℕ) → es ≡ fs → Levels tk es lowest highest far →
+    Levels tk fs lowest highest far
+levels-same tk es fs lowest highest far e v = subst (λ gs. Levels tk gs lowest highest far) e v
 
-  -- no edge yet
-  pub none-noted : (w : ℕ) → w ≡ 14616 → length places ≤ 4872 → Levels places [] (replicate w 11) (replicate w 0)
-  unfolding lowestIn highestIn
-  none-noted w e few = record {
-    low = record { size = length-replicate w 11 ∙ e; entry = λ n k g h. getD-replicate w (4872 * n + k) 11 0 (omega arith) };
-    high = record { size = length-replicate w 0 ∙ e; entry = λ n k g h. getD-replicate w (4872 * n + k) 0 0 (omega arith) };
+-- no edge yet
+pub none-noted : (tk : List ℕ) (w : ℕ) → w ≡ 14616 → length tk / 10 ≤ 4872 → Levels tk [] (replicate w 11) (replicate w 0) (replicate w 0)
+unfolding lowestIn highestIn
+none-noted tk w e few = record {
+  low = record { size = length-replicate w 11 ∙ e; entry = λ n k g h. getD-replicate w (4872 * n + k) 11 0 (omega (arith, length-places tk)) };
+  high = record { size = length-replicate w 0 ∙ e; entry = λ n k g h. getD-replicate w (4872 * n + k) 0 0 (omega (arith, length-places tk)) };
+  ends = record { size = length-replicate w 0 ∙ e; entry = λ n k g h o. absurd (omega arith) };
+}
+
+-- ---- the twelve edges of a cell
+
+-- the corners of a cell at which they start and end
+abbrev pub starts : List ℕ
+starts = 0 ∷ 2 ∷ 4 ∷ 6 ∷ 0 ∷ 4 ∷ 1 ∷ 5 ∷ 0 ∷ 1 ∷ 2 ∷ 3 ∷ []
+
+abbrev pub ends : List ℕ
+ends = 1 ∷ 3 ∷ 5 ∷ 7 ∷ 2 ∷ 6 ∷ 3 ∷ 7 ∷ 4 ∷ 5 ∷ 6 ∷ 7 ∷ []
+
+-- a statement holds of the numbers below n
+abbrev Below : ℕ → (ℕ → Type 0) → Type 0
+Below zero f = Unit {0}
+Below (suc n) f = f 0 × Below n (λ i. f (suc i))
+
+below-at : (n : ℕ) (f : ℕ → Type 0) → Below n f → (i : ℕ) → i < n → f i
+below-at zero f b i h = absurd (omega arith)
+below-at (suc n) f b zero h = b .0
+below-at (suc n) f b (suc i) h = below-at n (λ j. f (suc j)) (b .1) i (omega arith)
+
+module _ (c : Cell) where
+  abbrev corner : ℕ → Place
+  corner i = getD (octants (size c) (c .low)) i origin
+
+  -- edge e is on axis e / 4, from its start to its end
+  abbrev Placed : ℕ → Type 0
+  Placed e =
+      T (ltb (getD starts e 0) 8) × T (ltb (getD ends e 0) 8) ×
+      (getD (cellEdges c) e (edge X origin 0) ≡ edge (axisOf (e / 4)) (corner (getD starts e 0)) (c .level)) ×
+      (corner (getD ends e 0) ≡ move (axisOf (e / 4)) (size c) (corner (getD starts e 0)))
+
+  placed : (e : ℕ) → e < 12 → Placed e
+  placed =
+      below-at 12 Placed (
+        (tt, tt, refl, refl),
+        (
+          (tt, tt, refl, refl),
+          (
+            (tt, tt, refl, refl),
+            (
+              (tt, tt, refl, refl),
+              (
+                (tt, tt, refl, refl),
+                (
+                  (tt, tt, refl, refl),
+                  (
+                    (tt, tt, refl, refl),
+                    (
+                      (tt, tt, refl, refl),
+                      (
+                        (tt, tt, refl, refl),
+                        ((tt, tt, refl, refl), ((tt, tt, refl, refl), ((tt, tt, refl, refl), tt))),
+                      ),
+                    ),
+                  ),
+                ),
+              ),
+            ),
+          ),
+        ),
+      )
+
+module _ (tc tk t : List ℕ) (o : Octants tc tk t) (n : ℕ) (h : n < length tc / 4) (e : ℕ) (g : e < 12) where
+  pub start-below : getD starts e 0 < 8
+  start-below = ltb→lt (getD starts e 0) 8 (placed (cellAt tc n) e g .0)
+
+  pub end-below : getD ends e 0 < 8
+  end-below = ltb→lt (getD ends e 0) 8 (placed (cellAt tc n) e g .1)
+
+  pub start-octant : Octant tc tk n (getD starts e 0) (getD t (8 * n + getD starts e 0) 0)
+  start-octant = o .octant n (getD starts e 0) h start-below
+
+  pub end-octant : Octant tc tk n (getD ends e 0) (getD t (8 * n + getD ends e 0) 0)
+  end-octant = o .octant n (getD ends e 0) h end-below
+
+  upper-end : UpperEnd tk (axisOf (e / 4)) (getD t (8 * n + getD starts e 0) 0) (cellAt tc n .level) (getD t (8 * n + getD ends e 0) 0)
+  upper-end = record {
+    inside = end-octant .number;
+    place =
+        end-octant .place ∙ placed (cellAt tc n) e g .3 ∙
+        ap (move (axisOf (e / 4)) (size (cellAt tc n))) (sym (start-octant .place));
   }
 
--- ---- the four edges of a cell on an axis
+  edge-is : edge (axisOf (e / 4)) (placeAt (placesOf tk) (getD t (8 * n + getD starts e 0) 0)) (cellAt tc n .level) ∷ drop (e + 1) (cellEdges (cellAt tc n)) ≡
+      drop e (cellEdges (cellAt tc n))
+  edge-is =
+      ap (λ p. edge (axisOf (e / 4)) p (cellAt tc n .level) ∷ drop (e + 1) (cellEdges (cellAt tc n))) (start-octant .place) ∙
+      ap (λ d. d ∷ drop (e + 1) (cellEdges (cellAt tc n))) (sym (placed (cellAt tc n) e g .2)) ∙
+      sym (rest (cellEdges (cellAt tc n)) e (edge X origin 0) g)
 
-module _ (places : List Place) (c : Cell) (a : Axis) (all : Cornered places c) where
-  -- the lower ends are corners of the cell, and so are listed
-  listed : (q : Place) → In q (square a (size c) (c .low)) → T (any (same q) places)
-  listed q i = all q (square-corner (c .level) (c .low) a q i .1)
-
-  pub low-listed : T (any (same (c .low)) places)
-  low-listed = listed (c .low) (inl refl)
-
-  pub right-listed : T (any (same (move (next a) (size c) (c .low))) places)
-  right-listed = listed (move (next a) (size c) (c .low)) (inr (inl refl))
-
-  pub up-listed : T (any (same (move (next (next a)) (size c) (c .low))) places)
-  up-listed = listed (move (next (next a)) (size c) (c .low)) (inr (inr (inl refl)))
-
-  pub far-listed : T (any (same (move (next a) (size c) (move (next (next a)) (size c) (c .low)))) places)
-  far-listed = listed (move (next a) (size c) (move (next (next a)) (size c) (c .low))) (inr (inr (inr (inl refl))))
-
-module _ (places : List Place) (c : Cell) (a : Axis) where
-  -- the four, from the last to the first
-  pub axis-noted : (l : ℕ) → l ≡ c .level → (l₀ h₀ l₁ h₁ l₂ h₂ l₃ h₃ l₄ h₄ : List ℕ) →
-      Noted places (edge a (move (next a) (size c) (move (next (next a)) (size c) (c .low))) l ∷ []) l₀ h₀ l₁ h₁ →
-      Noted places (edge a (move (next (next a)) (size c) (c .low)) l ∷ []) l₁ h₁ l₂ h₂ →
-      Noted places (edge a (move (next a) (size c) (c .low)) l ∷ []) l₂ h₂ l₃ h₃ →
-      Noted places (edge a (c .low) l ∷ []) l₃ h₃ l₄ h₄ → Noted places (cellEdgesOn c a) l₀ h₀ l₄ h₄
-  axis-noted l e l₀ h₀ l₁ h₁ l₂ h₂ l₃ h₃ l₄ h₄ far up right low =
-      let right-of : Place = move (next a) (size c) (c .low) in
-      let up-of : Place = move (next (next a)) (size c) (c .low) in
-      let far-of : Place = move (next a) (size c) up-of in
-      let two : Noted places (edge a up-of l ∷ edge a far-of l ∷ []) l₀ h₀ l₂ h₂ = noted-then places (edge a far-of l ∷ []) (edge a up-of l ∷ []) l₀ h₀ l₁
-      h₁ l₂ h₂ far up in
-      let three : Noted places (edge a right-of l ∷ edge a up-of l ∷ edge a far-of l ∷ []) l₀ h₀ l₃ h₃ =
-      noted-then places (edge a up-of l ∷ edge a far-of l ∷ []) (edge a right-of l ∷ []) l₀ h₀ l₂ h₂ l₃ h₃ two right in
-      let four : Noted places (edge a (c .low) l ∷ edge a right-of l ∷ edge a up-of l ∷ edge a far-of l ∷ []) l₀ h₀ l₄ h₄ =
-      noted-then places (edge a right-of l ∷ edge a up-of l ∷ edge a far-of l ∷ []) (edge a (c .low) l ∷ []) l₀ h₀ l₃ h₃ l₄ h₄ three low in
-      subst (λ m. Noted places (edge a (c .low) m ∷ edge a right-of m ∷ edge a up-of m ∷ edge a far-of m ∷ []) l₀ h₀ l₄ h₄) e four
-
--- those of a cell, from the last axis to the first
-pub cell-noted : (places : List Place) (c : Cell) (l₀ h₀ l₁ h₁ l₂ h₂ l₃ h₃ : List ℕ) →
-    Noted places (cellEdgesOn c Z) l₀ h₀ l₁ h₁ → Noted places (cellEdgesOn c Y) l₁ h₁ l₂ h₂ → Noted places (cellEdgesOn c X) l₂ h₂ l₃ h₃ →
-    Noted places (cellEdges c) l₀ h₀ l₃ h₃
-cell-noted places c l₀ h₀ l₁ h₁ l₂ h₂ l₃ h₃ z y x =
-    noted-then places (cellEdgesOn c Y ++ cellEdgesOn c Z) (cellEdgesOn c X) l₀ h₀ l₂ h₂ l₃ h₃
-    (noted-then places (cellEdgesOn c Z) (cellEdgesOn c Y) l₀ h₀ l₁ h₁ l₂ h₂ z y) x
+  -- edge e of the cell of record n is noted, after those behind it
+  pub note-next : Bytes tk → rising (placesOf tk) ≡ true → length tk / 10 ≤ 4872 → (es : List CellEdge) (lowest highest far : List ℕ) →
+      Levels tk (drop (e + 1) (cellEdges (cellAt tc n)) ++ es) lowest highest far → (l slot : ℕ) → l ≡ cellAt tc n .level →
+      slot ≡ 4872 * (e / 4) + getD t (8 * n + getD starts e 0) 0 → (lowest' highest' far' : List ℕ) →
+      lowest' ≡ set lowest slot (min l (getD lowest slot 0)) → highest' ≡ set highest slot (max l (getD highest slot 0)) →
+      far' ≡ set far slot (cond (ltb l (getD lowest slot 0)) (getD t (8 * n + getD ends e 0) 0) (getD far slot 0)) →
+      Levels tk (drop e (cellEdges (cellAt tc n)) ++ es) lowest' highest' far'
+  note-next b up few es lowest highest far v l slot q r lowest' highest' far' x y z =
+      rw (x, y, z, r, q)
+      (levels-same tk _ _ _ _ _ (ap (λ fs. fs ++ es) edge-is)
+      (note-one tk b up few (e / 4) (getD t (8 * n + getD starts e 0) 0) (cellAt tc n .level) (omega arith) (start-octant .number)
+      (getD t (8 * n + getD ends e 0) 0) upper-end (drop (e + 1) (cellEdges (cellAt tc n)) ++ es) lowest highest far v))
 
 -- ---- all cells
 
 -- the edges of the cells from record i on
-pub edges-from : (cells : List Cell) (d : Cell) (i : ℕ) → i < length cells → edgesOf (drop i cells) ≡ cellEdges (getD cells i d) ++ edgesOf (drop (suc i) cells)
+pub edges-from : (cells : List Cell) (d : Cell) (i : ℕ) → i < length cells →
+    edgesOf (drop i cells) ≡ cellEdges (getD cells i d) ++ edgesOf (drop (i + 1) cells)
 unfolding edgesOf
-edges-from cells d i h = ap (collect cellEdges) (drop-cons cells i d h)
+edges-from cells d i h = ap (collect cellEdges) (rest cells i d h)
 
 pub edges-none : edgesOf [] ≡ []
 unfolding edgesOf

@@ -39,6 +39,18 @@ module _ (s : Survey) where
   unfolding slotsBelow
   below-le i = omega (arith, keep-le (crossedSlot s) (count 0 i), length-count i 0)
 
+  -- the count of crossed slots, one after another
+  pub none-below : length (slotsBelow s 0) ≡ 0
+  unfolding slotsBelow
+  none-below = refl
+
+  pub count-next : (i n m : ℕ) → n ≡ length (slotsBelow s i) → m ≡ bit (crossedSlot s i) → n + m ≡ length (slotsBelow s (i + 1))
+  count-next i n m e f = (λ j. e j + f j) ∙ sym (ap length (below-next s i) ∙ go (crossedSlot s i))
+    where
+      go : (b : Bool) → length (slotsBelow s i ++ cond b (i ∷ []) []) ≡ length (slotsBelow s i) + bit b
+      go true = length-append (slotsBelow s i) (i ∷ [])
+      go false = length-append (slotsBelow s i) []
+
   pub number-none : (numbers slots : List ℕ) → length numbers ≡ 14616 → length slots ≡ 14616 → Numbered s numbers slots 0 0
   unfolding slotsBelow
   number-none numbers slots g h = record {

@@ -17,7 +17,7 @@ use Rattle.places.proofs.Reckoned.{spot-on}
 use Rattle.records.specs.Keys.{keyOf, placesOf, recordAt}
 use Rattle.records.proofs.Keys.{Bytes, record-short, get-place}
 use Rattle.records.proofs.Found.{corner-found}
-use Rattle.edges.specs.Tables.{placeAt, lowestLevel, slotEdge, crossedSlot, Lowest, OddEdge}
+use Rattle.edges.specs.Tables.{placeAt, lowestLevel, slotEdge, crossedSlot, Lowest, OddEdge, UpperEnd}
 use Rattle.edges.proofs.Find.{found-self}
 use Rattle.edges.proofs.Readings.{lowest-read}
 use Rattle.edges.proofs.TwinSlots.{slot-edge, slot-odd-edge}
@@ -31,11 +31,10 @@ record-corner t b up k h =
     sym (ap (cornerAt (cornersOf t)) (get-place t k h) ∙ corner-found t b p (record-short t b k h) (omega arith) ∙ ap (cornerRecord t) e)
 
 -- the place between two records that are the ends of an edge
-pub spot-read : (t : List ℕ) → Bytes t → rising (placesOf t) ≡ true → (clearance : Float) (a : Axis) (k m l : ℕ) → k < length t / 10 → m < length t / 10 →
-    placeAt (placesOf t) m ≡ move a (2 ^ l) (placeAt (placesOf t) k) →
+pub spot-read : (t : List ℕ) → Bytes t → rising (placesOf t) ≡ true → (clearance : Float) (a : Axis) (k m l : ℕ) → k < length t / 10 → UpperEnd t a k l m →
     spotBetween clearance a (2 ^ l) (cornerRecord t k) (cornerRecord t m) ≡ spotOn (cornersOf t) clearance (edge a (placeAt (placesOf t) k) l)
-spot-read t b up clearance a k m l h g e =
-    (λ i. spotBetween clearance a (2 ^ l) (record-corner t b up k h i) ((record-corner t b up m g ∙ ap (cornerAt (cornersOf t)) e) i)) ∙
+spot-read t b up clearance a k m l h u =
+    (λ i. spotBetween clearance a (2 ^ l) (record-corner t b up k h i) ((record-corner t b up m (u .inside) ∙ ap (cornerAt (cornersOf t)) (u .place)) i)) ∙
     spot-on (cornersOf t) clearance (edge a (placeAt (placesOf t) k) l)
 
 -- the edge of a slot, as the tables have it

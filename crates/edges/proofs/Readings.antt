@@ -20,7 +20,7 @@ use Rattle.records.proofs.Keys.{Bytes, get-place, length-places}
 use Rattle.records.proofs.Search.{keyAt}
 use Rattle.octree.proofs.Accepted.{accepted→, lawful}
 use Rattle.octree.proofs.Halves.{one-odd-half}
-use Rattle.edges.specs.Tables.{placeAt, lowestLevel, crossedAt, crossedSlot, slotsBelow, slotEdge, Lowest, Wets, Numbers}
+use Rattle.edges.specs.Tables.{placeAt, lowestLevel, crossedAt, crossedSlot, slotsBelow, slotEdge, Lowest, Far, Wets, Numbers, UpperEnd}
 use Rattle.edges.specs.Noting.{keyUnit, Corners}
 use Rattle.edges.proofs.Find.{key-move, found}
 use Rattle.edges.proofs.Levels.{Edged, edge→levels, lowest-edge, carrier-here, carrier-below, halves-below}
@@ -43,14 +43,22 @@ marks-differ false true = refl
 marks-differ false false = refl
 
 -- an edge is odd just if the marks at its two records differ
-pub odd-read : (t : List ℕ) (clearance : Float) (wets : List ℕ) → Wets t clearance wets → (a : Axis) (k m l : ℕ) → k < length t / 10 → m < length t / 10 →
-    placeAt (placesOf t) m ≡ move a (2 ^ l) (placeAt (placesOf t) k) →
+pub odd-read : (t : List ℕ) (clearance : Float) (wets : List ℕ) → Wets t clearance wets → (a : Axis) (k m l : ℕ) → k < length t / 10 → UpperEnd t a k l m →
     not (eqb (getD wets k 0) (getD wets m 0)) ≡ odd (wetAt (cornersOf t) clearance) a (placeAt (placesOf t) k) l
 unfolding odd
-odd-read t clearance wets w a k m l h g e =
-    (λ i. not (eqb (w .entry k h i) (w .entry m g i))) ∙
+odd-read t clearance wets w a k m l h u =
+    (λ i. not (eqb (w .entry k h i) (w .entry m (u .inside) i))) ∙
     marks-differ (wetAt (cornersOf t) clearance (placeAt (placesOf t) k)) (wetAt (cornersOf t) clearance (placeAt (placesOf t) m)) ∙
-    ap (λ p. not (Bool·beq (wetAt (cornersOf t) clearance (placeAt (placesOf t) k)) (wetAt (cornersOf t) clearance p))) e
+    ap (λ p. not (Bool·beq (wetAt (cornersOf t) clearance (placeAt (placesOf t) k)) (wetAt (cornersOf t) clearance p))) (u .place)
+
+-- the upper end of the edge of the lowest level at a slot, where there is one
+pub far-read : (tc tk lowest far : List ℕ) → Lowest tc tk lowest → Far tc tk far → (n k i : ℕ) → i ≡ 4872 * n + k → n < 3 → k < length tk / 10 →
+    getD lowest i 0 ≤ 10 → UpperEnd tk (axisOf n) k (getD lowest i 0) (getD far i 0)
+far-read tc tk lowest far low ends n k i e g h o =
+    let q = low .entry n k g (omega (arith, length-places tk)) in
+    let r : getD lowest i 0 ≡ getD lowest (4872 * n + k) 0 = ap (λ j. getD lowest j 0) e in
+    subst (λ j. UpperEnd tk (axisOf n) k (getD lowest j 0) (getD far j 0)) (sym e)
+    (subst (λ l. UpperEnd tk (axisOf n) k l (getD far (4872 * n + k) 0)) (sym q) (ends .entry n k g h (omega (arith, q, r))))
 
 -- ---- crossed slots
 
@@ -79,7 +87,7 @@ module _ (tc tk : List ℕ) (clearance : Float) (ok : accepted tc tk clearance �
   abbrev s : Survey
   s = surveyOf tc tk clearance
 
-  no-refusal : surveyRefusal tc tk ≡ 0
+  pub no-refusal : surveyRefusal tc tk ≡ 0
   no-refusal = accepted→ tc tk clearance (→true ok) .0
 
   pub corners : Corners tk
@@ -118,10 +126,6 @@ module _ (tc tk : List ℕ) (clearance : Float) (ok : accepted tc tk clearance �
       low-edge =
           subst (λ (l : ℕ). T (isEdge (cellsOf tc) (axisOf (i / 4872)) (placeAt (placesOf tk) (i % 4872)) l)) (sym (level-is g))
           (lowest-edge s edges-law (axisOf (i / 4872)) (placeAt (placesOf tk) (i % 4872)) (omega (arith, level-is g)))
-
-      pub upper-known : T (any (same (move (axisOf (i / 4872)) (2 ^ getD lowest i 0) (placeAt (placesOf tk) (i % 4872)))) (placesOf tk))
-      unfolding surveyOf
-      upper-known = edges-law .upper-end (axisOf (i / 4872)) (placeAt (placesOf tk) (i % 4872)) (getD lowest i 0) low-edge
 
       pub crossed-odd : crossedSlot (surveyOf tc tk clearance) i ≡
           odd (wetAt (cornersOf tk) clearance) (axisOf (i / 4872)) (placeAt (placesOf tk) (i % 4872)) (getD lowest i 0)

@@ -1,7 +1,6 @@
--- What a survey without refusal gives the code: sizes of the tables, rising keys, and of each cell record a bounded key and listed corners.
-use Prim.Native.Nat.{ℕ, _+_, _*_, _/_, _%_, _≤_, _<_}
+-- What a survey without refusal gives the code: sizes of the tables, rising keys, and small keys of the corner records.
+use Prim.Native.Nat.{ℕ, _+_, _*_, _/_, _%_, _^_, _≤_, _<_}
 use mathlib.Core.Path.{_≡_, refl, sym, ap, _∙_, subst}
-use mathlib.Core.Logic.{inl}
 use mathlib.Core.Bool.{Bool, true, false, not, _||_}
 use mathlib.Core.List.{List, []}
 use native.Mathlib.Omega.{arith}
@@ -10,23 +9,24 @@ use lib.ListN.{length, drop}
 use lib.Seq.{drop-length}
 use lib.Ieee.{nan}
 use borrow.Author.Tests.{ltb-false}
-use Rattle.base.specs.Grid.{Place, origin, Axis, X, Y, Z, along, same}
+use Rattle.base.specs.Grid.{Place, origin, Axis, X, Y, Z, along, move, same}
 use Rattle.base.proofs.Tests.{true→}
-use Rattle.base.proofs.Lists.{In, in→any, in-get}
+use Rattle.base.specs.Lists.{any}
+use Rattle.base.proofs.Lists.{in→any, in-get}
 use Rattle.base.proofs.Places.{same-refl}
 use Rattle.records.proofs.Keys.{length-places}
-use Rattle.rules.specs.Survey.{Cell, cell, cellsOf}
+use Rattle.rules.specs.Survey.{cellsOf}
+use Rattle.rules.specs.Edges.{isEdge}
 use Rattle.rules.specs.Outputs.{badTable, rising, surveyRefusal, surveyOf}
 use Rattle.records.specs.Keys.{keyOf, placesOf}
-use Rattle.cells.specs.Laid.{cellAt}
-use Rattle.octree.proofs.Lawful.{isCell, CornerOf, Octree, Lawful}
-use Rattle.octree.proofs.Cells.{→cell}
+use Rattle.octree.proofs.Lawful.{Octree}
 use Rattle.octree.proofs.Tree.{octree-of}
 use Rattle.octree.proofs.Records.{cell-count}
-use Rattle.octree.proofs.Aligned.{corner-place}
+use Rattle.octree.proofs.Aligned.{corner-place, edge-level}
+use Rattle.octree.proofs.Edges.{upper-end}
 use Rattle.octree.proofs.Accepted.{Checked, checked, checked-lawful}
 use Rattle.edges.specs.Tables.{edgesOf, placeAt}
-use Rattle.edges.specs.Noting.{Corners, Cornered}
+use Rattle.edges.specs.Noting.{Corners}
 use Rattle.edges.proofs.Notes.{edges-none}
 
 within-limit : (a b : Bool) (limit n : ℕ) → (a || (b || ltb limit n)) ≡ false → n ≤ limit
@@ -59,24 +59,16 @@ module _ (tc tk : List ℕ) (ok : surveyRefusal tc tk ≡ 0) where
   pub none-left : edgesOf (drop (length tc / 4) (cellsOf tc)) ≡ []
   none-left = ap edgesOf (ap (λ n. drop n (cellsOf tc)) (sym (cell-count tc (passes .entries-right))) ∙ drop-length (cellsOf tc)) ∙ edges-none
 
-  module _ (i : ℕ) (h : i < length tc / 4) where
-    pub record-inside : i < length (cellsOf tc)
-    record-inside = omega (arith, cell-count tc (passes .entries-right))
+  pub record-inside : (i : ℕ) → i < length tc / 4 → i < length (cellsOf tc)
+  record-inside i h = omega (arith, cell-count tc (passes .entries-right))
 
-    is-cell : T (isCell (cellsOf tc) (cellAt tc i .level) (cellAt tc i .low))
-    is-cell = →cell (cellsOf tc) (cellAt tc i) (in-get (cellsOf tc) i (cell origin 10 false) record-inside)
+  -- the level of an edge, and its upper end
+  pub edge-shallow : (a : Axis) (p : Place) (l : ℕ) → T (isEdge (cellsOf tc) a p l) → l ≤ 10
+  edge-shallow a p l t = edge-level (cellsOf tc) tree a p l t
 
-    pub cell-cornered : Cornered (placesOf tk) (cellAt tc i)
-    unfolding surveyOf
-    cell-cornered q c = checked-lawful tc tk nan passes .listed (cellAt tc i .level) (cellAt tc i .low) q is-cell c
-
-    pub cell-level : cellAt tc i .level ≤ 10
-    cell-level = tree .shallow (cellAt tc i .level) (cellAt tc i .low) is-cell
-
-    pub cell-key : keyOf (cellAt tc i .low) ≤ 4398113620992
-    cell-key =
-        key-small (cellAt tc i .low)
-        (λ a. corner-place (cellsOf tc) tree (cellAt tc i .level) (cellAt tc i .low) (cellAt tc i .low) is-cell (λ b. inl refl) a .1)
+  pub upper-listed : (a : Axis) (p : Place) (l : ℕ) → T (isEdge (cellsOf tc) a p l) → T (any (same (move a (2 ^ l) p)) (placesOf tk))
+  unfolding surveyOf
+  upper-listed a p l t = upper-end (surveyOf tc tk nan) (checked-lawful tc tk nan passes) a p l t
 
   -- what a look-up asks of the corner table
   pub corners-known : Corners tk

@@ -17,10 +17,10 @@ use Rattle.rules.specs.Steps.{twin, edgeOf, numberElse, twinOf}
 use Rattle.rules.specs.Outputs.{accepted, surveyOf}
 use Rattle.records.specs.Keys.{placesOf}
 use Rattle.records.proofs.Keys.{length-places}
-use Rattle.edges.specs.Tables.{placeAt, lowestLevel, crossedSlot, slotsBelow, slotEdge, Lowest, Slots, Twins, OddEdge}
+use Rattle.edges.specs.Tables.{placeAt, lowestLevel, crossedSlot, slotsBelow, slotEdge, Lowest, Far, Slots, Twins, OddEdge, UpperEnd}
 use Rattle.edges.proofs.Levels.{Edged}
 use Rattle.edges.proofs.Points.{edge-of, point-edge, point-count, below-in}
-use Rattle.edges.proofs.Readings.{edges-law, few-places, outside, empty, low-edge, crossed-odd, lowest-read}
+use Rattle.edges.proofs.Readings.{edges-law, few-places, outside, empty, low-edge, crossed-odd, lowest-read, far-read}
 use Rattle.edges.proofs.Numbering.{below-le}
 
 twin-def : (s : Survey) (v : ℕ) → twinOf s v ≡ numberElse s v (twin s 10 (edgeOf s v .axis) (edgeOf s v .low) (edgeOf s v .level))
@@ -55,6 +55,9 @@ module _ (tc tk : List ℕ) (clearance : Float) (ok : accepted tc tk clearance �
       is-edge = low-edge tc tk clearance ok lowest low i h inside level-low;
       is-odd = subst T (crossed-odd tc tk clearance ok lowest low i h inside level-low) t;
     }
+
+    pub slot-far-end : (far : List ℕ) → Far tc tk far → UpperEnd tk (axisOf (i / 4872)) (i % 4872) (getD lowest i 0) (getD far i 0)
+    slot-far-end far ends = far-read tc tk lowest far low ends (i / 4872) (i % 4872) i (omega arith) (omega arith) inside level-low
 
   -- the slot of point v
   module _ (slots : List ℕ) (at : Slots (surveyOf tc tk clearance) slots) (v : ℕ) (h : v < length (slotsBelow (surveyOf tc tk clearance) 14616)) where

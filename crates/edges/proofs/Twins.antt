@@ -19,7 +19,8 @@ use Rattle.rules.specs.Outputs.{accepted, surveyOf}
 use Rattle.records.specs.Keys.{keyOf, placesOf, recordAt}
 use Rattle.records.proofs.Keys.{Bytes, Short, length-places}
 use Rattle.records.proofs.Found.{found-listed}
-use Rattle.edges.specs.Tables.{placeAt, lowestLevel, highestLevel, Lowest, Highest, OddEdge, Sought}
+use Rattle.octree.proofs.Halves.{move-move}
+use Rattle.edges.specs.Tables.{placeAt, lowestLevel, highestLevel, Lowest, Highest, OddEdge, UpperEnd, Sought, Risen}
 use Rattle.edges.proofs.Find.{found}
 use Rattle.edges.proofs.Levels.{Edged, edge→levels, levels→edge}
 use Rattle.edges.proofs.Readings.{corners, edges-law, lowest-read}
@@ -122,87 +123,120 @@ module _ (tc tk : List ℕ) (clearance : Float) (ok : accepted tc tk clearance �
       none = λ x. absurd (omega arith);
     }
 
+  -- ---- the edge above
+
+  module _ (a : Axis) (k l : ℕ) where
+    -- an upper half: the edge above ends where the half does, and starts where its other half does
+    pub risen-upper : (w r : ℕ) → isUpper a (placeAt (placesOf tk) k) l ≡ true → UpperEnd tk a k l w → Sought tc tk a (above a (placeAt (placesOf tk) k) l) (suc l) r →
+        Risen tc tk a k l r w r
+    risen-upper w r h u f = record {
+      sought = f;
+      upper = λ g. record { inside = u .inside; place = u .place ∙ sym (ap (move a (2 ^ suc l)) (f .found g .1 ∙ is-back) ∙ two-steps) };
+      half-inside = λ g. g;
+      half-place = λ g. f .found g .1 ∙ is-back ∙ ap (λ b. cond b (back a (2 ^ l) (at k)) (move a (2 ^ l) (at k))) (sym h);
+    }
+      where
+        is-back : above a (at k) l ≡ back a (2 ^ l) (at k)
+        is-back = ap (λ b. cond b (back a (2 ^ l) (at k)) (at k)) h
+
+        two-steps : move a (2 ^ suc l) (back a (2 ^ l) (at k)) ≡ move a (2 ^ l) (at k)
+        two-steps = sym (move-move a l (back a (2 ^ l) (at k))) ∙ ap (move a (2 ^ l)) (back-move a (2 ^ l) (at k) (upper-room a (at k) l h))
+
+    module _ (h : isUpper a (placeAt (placesOf tk) k) l ≡ false) where
+      -- a lower half: the edge above starts where the half does
+      pub start-same : placeAt (placesOf tk) k ≡ above a (placeAt (placesOf tk) k) l
+      start-same = ap (λ b. cond b (back a (2 ^ l) (at k)) (at k)) (sym h)
+
+      pub risen-lower : (w v : ℕ) → UpperEnd tk a k l w → UpperEnd tk a w l v → Sought tc tk a (above a (placeAt (placesOf tk) k) l) (suc l) k → Risen tc tk a k l k v w
+      risen-lower w v u y f = record {
+        sought = f;
+        upper = λ g. record { inside = y .inside; place = y .place ∙ ap (move a (2 ^ l)) (u .place) ∙ move-move a l (at k) };
+        half-inside = λ g. u .inside;
+        half-place = λ g. u .place ∙ ap (λ b. cond b (back a (2 ^ l) (at k)) (move a (2 ^ l) (at k))) (sym h);
+      }
+
+    pub risen-none : (w v : ℕ) → Sought tc tk a (above a (placeAt (placesOf tk) k) l) (suc l) (length tk / 10) → Risen tc tk a k l (length tk / 10) w v
+    risen-none w v f = record {
+      sought = f;
+      upper = λ g. absurd (omega arith);
+      half-inside = λ g. absurd (omega arith);
+      half-place = λ g. absurd (omega arith);
+    }
+
+    -- the upper half of an edge whose lower half is an edge
+    pub upper-half : (w : ℕ) → UpperEnd tk a k l w → T (isEdge (cellsOf tc) a (placeAt (placesOf tk) k) l) →
+        T (isEdge (cellsOf tc) a (placeAt (placesOf tk) k) (suc l)) → T (isEdge (cellsOf tc) a (placeAt (placesOf tk) w) l)
+    unfolding surveyOf divided
+    upper-half w u t o =
+        subst (λ (x : Place). T (isEdge (cellsOf tc) a x l)) (sym (u .place))
+        (edges-law tc tk clearance ok .halves a (at k) l o (or-left (isEdge (cellsOf tc) a (at k) l) (isEdge (cellsOf tc) a (move a (2 ^ l) (at k)) l) t) .1)
+
   -- ---- the climb
 
-  module _ (a : Axis) (k₀ l₀ k l m r : ℕ) (v : ℕ) (c : Climbed tc tk clearance a k₀ l₀ k l) (q : m ≡ suc l)
-      (f : Sought tc tk a (above a (placeAt (placesOf tk) k) l) m r) where
+  module _ (a : Axis) (k₀ l₀ k l start end half v : ℕ) (c : Climbed tc tk clearance a k₀ l₀ k l) (f : Risen tc tk a k l start end half) where
     -- no cell has an edge above
-    pub climb-ends : length tk / 10 ≤ r → v ≡ numberElse (surveyOf tc tk clearance) v (twin (surveyOf tc tk clearance) 10 a (placeAt (placesOf tk) k₀) l₀)
+    pub climb-ends : length tk / 10 ≤ start → v ≡ numberElse (surveyOf tc tk clearance) v (twin (surveyOf tc tk clearance) 10 a (placeAt (placesOf tk) k₀) l₀)
     unfolding surveyOf
-    climb-ends h =
-        sym (ap (numberElse s v) (sym (c .same-twin) ∙ twin-none s (c .left) a (at k) l (ap (isEdge (cellsOf tc) a (above a (at k) l)) (sym q) ∙ f .none h))
-        ∙ else-none s v)
+    climb-ends h = sym (ap (numberElse s v) (sym (c .same-twin) ∙ twin-none s (c .left) a (at k) l (f .sought .none h)) ∙ else-none s v)
 
-    module _ (h : r < length tk / 10) where
+    module _ (h : start < length tk / 10) where
       above-edge : T (isEdge (cellsOf tc) a (above a (at k) l) (suc l))
-      above-edge = subst (λ (j : ℕ). T (isEdge (cellsOf tc) a (above a (at k) l) j)) q (f .found h .0)
+      above-edge = f .sought .found h .0
 
-      pub above-level : m ≤ 10
-      unfolding surveyOf
-      above-level = omega (arith, q, edges-law tc tk clearance ok .shallow a (above a (at k) l) (suc l) above-edge)
+      above-is : isEdge (cellsOf tc) a (above a (at k) l) (suc l) ≡ true
+      above-is = true→ (isEdge (cellsOf tc) a (above a (at k) l) (suc l)) above-edge
 
-      pub above-upper-listed : T (any (same (move a (2 ^ m) (placeAt (placesOf tk) r))) (placesOf tk))
+      pub above-level : suc l ≤ 10
       unfolding surveyOf
-      above-upper-listed =
-          edges-law tc tk clearance ok .upper-end a (at r) m (subst (λ (x : Place). T (isEdge (cellsOf tc) a x m)) (sym (f .found h .1)) (f .found h .0))
+      above-level = edges-law tc tk clearance ok .shallow a (above a (at k) l) (suc l) above-edge
 
       -- one turn of fuel is left
-      one-left : (j : ℕ) × (c .left ≡ suc j) × (10 ≤ j + m)
+      one-left : (j : ℕ) × (c .left ≡ suc j) × (10 ≤ j + suc l)
       one-left = go (c .left) refl
         where
-          go : (n : ℕ) → c .left ≡ n → (j : ℕ) × (c .left ≡ suc j) × (10 ≤ j + m)
-          go zero e = absurd (omega (arith, c .enough, above-level, q))
-          go (suc j) e = (j, e, omega (arith, c .enough, q))
+          go : (n : ℕ) → c .left ≡ n → (j : ℕ) × (c .left ≡ suc j) × (10 ≤ j + suc l)
+          go zero e = absurd (omega (arith, c .enough, above-level))
+          go (suc j) e = (j, e, omega (arith, c .enough))
 
-      odd-above : odd (wetAt (cornersOf tk) clearance) a (at r) m ≡ odd (wetAt (cornersOf tk) clearance) a (above a (at k) l) (suc l)
-      odd-above = λ i. odd (wetAt (cornersOf tk) clearance) a (f .found h .1 i) (q i)
+      odd-above : odd (wetAt (cornersOf tk) clearance) a (at start) (suc l) ≡ odd (wetAt (cornersOf tk) clearance) a (above a (at k) l) (suc l)
+      odd-above = ap (λ (x : Place). odd (wetAt (cornersOf tk) clearance) a x (suc l)) (f .sought .found h .1)
 
       -- the edge above is odd: on from there
-      pub climb-on : odd (wetAt (cornersOf tk) clearance) a (placeAt (placesOf tk) r) m ≡ true → Climbed tc tk clearance a k₀ l₀ r m
+      pub climb-on : odd (wetAt (cornersOf tk) clearance) a (placeAt (placesOf tk) start) (suc l) ≡ true → Climbed tc tk clearance a k₀ l₀ start (suc l)
       unfolding surveyOf
       climb-on o =
           let j = one-left in
           record {
             odd-edge = record {
               inside = h;
-              is-edge = subst (λ (x : Place). T (isEdge (cellsOf tc) a x m)) (sym (f .found h .1)) (f .found h .0);
+              is-edge = subst (λ (x : Place). T (isEdge (cellsOf tc) a x (suc l))) (sym (f .sought .found h .1)) above-edge;
               is-odd = →true o;
             };
             left = j .0;
             enough = j .2;
             same-twin =
-                (λ i. twin s (j .0) a (f .found h .1 i) (q i)) ∙
-                sym (twin-up s (j .0) a (at k) l (true→ (isEdge (cellsOf tc) a (above a (at k) l) (suc l)) above-edge) (sym odd-above ∙ o)) ∙
+                ap (λ (x : Place). twin s (j .0) a x (suc l)) (f .sought .found h .1) ∙ sym (twin-up s (j .0) a (at k) l above-is (sym odd-above ∙ o)) ∙
                 ap (λ (n : ℕ). twin s n a (at k) l) (sym (j .1)) ∙ c .same-twin;
           }
 
       -- it is even: down its other half
-      module _ (b : Bytes tk) (o : odd (wetAt (cornersOf tk) clearance) a (placeAt (placesOf tk) r) m ≡ false) (w : ℕ)
-          (z : w ≡ recordAt tk (keyOf (other a (placeAt (placesOf tk) k) l))) where
+      module _ (o : odd (wetAt (cornersOf tk) clearance) a (placeAt (placesOf tk) start) (suc l) ≡ false) where
         other-is : T (isEdge (cellsOf tc) a (other a (at k) l) l) × T (odd (wetAt (cornersOf tk) clearance) a (other a (at k) l) l)
         unfolding surveyOf
         other-is = other-odd s (edges-law tc tk clearance ok) a (at k) l (c .odd-edge .is-edge) (c .odd-edge .is-odd) above-edge (sym odd-above ∙ o)
 
-        other-found : (w < length tk / 10) × (at w ≡ other a (at k) l)
-        unfolding surveyOf
-        other-found =
-            let u = found tk b (corners tc tk clearance ok .rises) (other a (at k) l) (edges-law tc tk clearance ok .lower-end a (other a (at k) l) l
-            (other-is .0)) in
-            (omega (arith, u .0, z), ap at z ∙ u .1)
-
-        pub other-edge : OddEdge tc tk clearance a w l
+        pub other-edge : OddEdge tc tk clearance a half l
         other-edge = record {
-          inside = other-found .0;
-          is-edge = subst (λ (x : Place). T (isEdge (cellsOf tc) a x l)) (sym (other-found .1)) (other-is .0);
-          is-odd = subst (λ (x : Place). T (odd (wetAt (cornersOf tk) clearance) a x l)) (sym (other-found .1)) (other-is .1);
+          inside = f .half-inside h;
+          is-edge = subst (λ (x : Place). T (isEdge (cellsOf tc) a x l)) (sym (f .half-place h)) (other-is .0);
+          is-odd = subst (λ (x : Place). T (odd (wetAt (cornersOf tk) clearance) a x l)) (sym (f .half-place h)) (other-is .1);
         }
 
-        pub climb-turns : pointOf (surveyOf tc tk clearance) (edge a (placeAt (placesOf tk) w) l) ≡
+        pub climb-turns : pointOf (surveyOf tc tk clearance) (edge a (placeAt (placesOf tk) half) l) ≡
             numberElse (surveyOf tc tk clearance) v (twin (surveyOf tc tk clearance) 10 a (placeAt (placesOf tk) k₀) l₀)
         unfolding surveyOf
         climb-turns =
             let j = one-left in
-            ap (λ (x : Place). pointOf s (edge a x l)) (other-found .1) ∙ sym (else-some s v a (other a (at k) l) l) ∙
-            ap (numberElse s v) (sym (twin-found s (j .0) a (at k) l (true→ (isEdge (cellsOf tc) a (above a (at k) l) (suc l)) above-edge)
-            (sym odd-above ∙ o)) ∙
+            ap (λ (x : Place). pointOf s (edge a x l)) (f .half-place h) ∙ sym (else-some s v a (other a (at k) l) l) ∙
+            ap (numberElse s v) (sym (twin-found s (j .0) a (at k) l above-is (sym odd-above ∙ o)) ∙
             ap (λ (n : ℕ). twin s n a (at k) l) (sym (j .1)) ∙ c .same-twin)

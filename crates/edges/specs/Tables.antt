@@ -1,6 +1,6 @@
 -- The tables in which drawing and the enquiry look edges and points up, and what each of them holds, of a survey at a clearance.
 -- A slot stands for an axis and a corner record: 4,872 slots for each axis, so slot 4,872 n + k is for record k on the axis with number n.
-use Prim.Native.Nat.{ℕ, zero, suc, _+_, _*_, _/_, _%_, _≤_, _<_, min, max}
+use Prim.Native.Nat.{ℕ, zero, suc, _+_, _*_, _/_, _%_, _^_, _≤_, _<_, min, max}
 use mathlib.Core.Path.{_≡_}
 use mathlib.Core.Bool.{Bool, false, _&&_, cond}
 use mathlib.Core.List.{List, [], _∷_, _++_}
@@ -8,12 +8,13 @@ use lib.Dec.{T, eqb, ltb}
 use lib.ListN.{length, getD}
 use lib.Ieee.{Float}
 use Rattle.base.specs.Lists.{keep, collect, count, bit}
-use Rattle.base.specs.Grid.{Place, origin, Axis, axes, axisNumber, axisOf, same}
+use Rattle.base.specs.Grid.{Place, origin, Axis, axes, axisNumber, axisOf, move, same}
 use Rattle.rules.specs.Survey.{Cell, cellsOf, cornersOf, wetAt, Survey}
-use Rattle.rules.specs.Edges.{CellEdge, edge, isEdge, odd}
-use Rattle.rules.specs.Steps.{twinOf}
+use Rattle.rules.specs.Edges.{CellEdge, edge, isEdge, odd, carrier}
+use Rattle.rules.specs.Steps.{above, other, twinOf}
 use Rattle.rules.specs.Closing.{cellEdgesOn}
 use Rattle.records.specs.Keys.{placesOf}
+use Rattle.cells.specs.Laid.{cellAt}
 
 -- ---- levels
 
@@ -77,15 +78,32 @@ slotEdge s i =
 
 -- ---- the tables
 
+-- the levels of the cells, record by record
+pub record CellLevels (tc levels : List ℕ) : Type 0 where
+  pub room : length tc / 4 ≤ length levels
+  pub level : (n : ℕ) → n < length tc / 4 → getD levels n 0 ≡ cellAt tc n .level
+
 -- a number for each slot: f of its axis and place
 pub record Tabled (places : List Place) (f : Axis → Place → ℕ) (table : List ℕ) : Type 0 where
   pub size : length table ≡ 14616
   pub entry : (n k : ℕ) → n < 3 → k < length places → getD table (4872 * n + k) 0 ≡ f (axisOf n) (placeAt places k)
 
--- the levels of the edges on a list
-pub record Levels (places : List Place) (es : List CellEdge) (lowest highest : List ℕ) : Type 0 where
-  pub low : Tabled places (lowestIn es) lowest
-  pub high : Tabled places (highestIn es) highest
+-- corner record m is at the upper end of the edge of level l that starts at corner record k on axis a
+pub record UpperEnd (tk : List ℕ) (a : Axis) (k l m : ℕ) : Type 0 where
+  pub inside : m < length tk / 10
+  pub place : placeAt (placesOf tk) m ≡ move a (2 ^ l) (placeAt (placesOf tk) k)
+
+-- for each slot at which edges on a list start, the corner record at the upper end of the one of the lowest level
+pub record FarEnds (tk : List ℕ) (es : List CellEdge) (table : List ℕ) : Type 0 where
+  pub size : length table ≡ 14616
+  pub entry : (n k : ℕ) → n < 3 → k < length tk / 10 → lowestIn es (axisOf n) (placeAt (placesOf tk) k) < 11 →
+      UpperEnd tk (axisOf n) k (lowestIn es (axisOf n) (placeAt (placesOf tk) k)) (getD table (4872 * n + k) 0)
+
+-- the levels and the upper ends of the edges on a list
+pub record Levels (tk : List ℕ) (es : List CellEdge) (lowest highest far : List ℕ) : Type 0 where
+  pub low : Tabled (placesOf tk) (lowestIn es) lowest
+  pub high : Tabled (placesOf tk) (highestIn es) highest
+  pub ends : FarEnds tk es far
 
 -- of the edges of all cells
 abbrev pub Lowest : List ℕ → List ℕ → List ℕ → Type 0
@@ -93,6 +111,9 @@ Lowest tc tk table = Tabled (placesOf tk) (lowestIn (edgesOf (cellsOf tc))) tabl
 
 abbrev pub Highest : List ℕ → List ℕ → List ℕ → Type 0
 Highest tc tk table = Tabled (placesOf tk) (highestIn (edgesOf (cellsOf tc))) table
+
+abbrev pub Far : List ℕ → List ℕ → List ℕ → Type 0
+Far tc tk table = FarEnds tk (edgesOf (cellsOf tc)) table
 
 -- 1 for each corner record that is wet at the clearance, else 0
 pub record Wets (tk : List ℕ) (clearance : Float) (table : List ℕ) : Type 0 where
@@ -122,7 +143,21 @@ pub record OddEdge (tc tk : List ℕ) (clearance : Float) (a : Axis) (k l : ℕ)
   pub is-edge : T (isEdge (cellsOf tc) a (placeAt (placesOf tk) k) l)
   pub is-odd : T (odd (wetAt (cornersOf tk) clearance) a (placeAt (placesOf tk) k) l)
 
+-- slot i is that of the edge that carries the point of the edge of level l from p on
+pub record CarrierSlot (s : Survey) (a : Axis) (p : Place) (l i : ℕ) : Type 0 where
+  pub inside : i < 14616
+  pub crossed : T (crossedSlot s i)
+  pub carries : slotEdge s i ≡ carrier s a p l
+
 -- What a search for the edge of level l from p on gives: the corner record there, or the number of records where no cell has the edge.
 pub record Sought (tc tk : List ℕ) (a : Axis) (p : Place) (l r : ℕ) : Type 0 where
   pub found : r < length tk / 10 → T (isEdge (cellsOf tc) a p l) × (placeAt (placesOf tk) r ≡ p)
   pub none : length tk / 10 ≤ r → isEdge (cellsOf tc) a p l ≡ false
+
+-- What climbing from the edge of level l at corner record k gives: the corner record at which the edge above starts, or the number of records where no cell has
+-- it; the one at its upper end; and the one at which its other half starts.
+pub record Risen (tc tk : List ℕ) (a : Axis) (k l start end half : ℕ) : Type 0 where
+  pub sought : Sought tc tk a (above a (placeAt (placesOf tk) k) l) (suc l) start
+  pub upper : start < length tk / 10 → UpperEnd tk a start (suc l) end
+  pub half-inside : start < length tk / 10 → half < length tk / 10
+  pub half-place : start < length tk / 10 → placeAt (placesOf tk) half ≡ other a (placeAt (placesOf tk) k) l

@@ -3,8 +3,8 @@ ghost use mathlib.Core.Path.{_≡_};
 ghost use mathlib.Core.Bool.{true};
 ghost use Prim.Native.Nat.{_+_, _*_, _/_, _<_};
 ghost use Rattle.base.specs.Grid.{axisOf};
-ghost use Rattle.rules.specs.Outputs.{accepted, surveyOf};
-ghost use Rattle.edges.specs.Tables.{Lowest, Highest, Wets, Numbers, Slots};
+ghost use Rattle.rules.specs.Outputs.{accepted};
+ghost use Rattle.edges.specs.Tables.{Lowest, Highest, Far, Wets};
 ghost use Rattle.rules.specs.Outputs.{enquiry};
 ghost use Rattle.edges.specs.Enquiry.{edgeAnswer};
 use super::ends;
@@ -19,8 +19,7 @@ pub fn edge_answer(
     wets: &[u8],
     lowest: &[u8],
     highest: &[u8],
-    numbers: &[u16],
-    slots: &[u16],
+    far: &[u16],
     axis: u32,
     x: u16,
     y: u16,
@@ -31,8 +30,7 @@ pub fn edge_answer(
     requires { ⌜ Wets (now corners) clearance (now wets) ⌝ }
     requires { ⌜ Lowest (now cells) (now corners) (now lowest) ⌝ }
     requires { ⌜ Highest (now cells) (now corners) (now highest) ⌝ }
-    requires { ⌜ Numbers (surveyOf (now cells) (now corners) clearance) (now numbers) ⌝ }
-    requires { ⌜ Slots (surveyOf (now cells) (now corners) clearance) (now slots) ⌝ }
+    requires { ⌜ Far (now cells) (now corners) (now far) ⌝ }
     requires { ⌜ axis < 3 ⌝ }
     ensures { λ r. ⌜ r ≡ edgeAnswer (now (cells .entry)) (now (corners .entry)) clearance (axisOf axis) (record { x = x; y = y; z = z }) level ⌝ }
 {
@@ -41,28 +39,14 @@ pub fn edge_answer(
     if k >= corners.len() / 10 {
         return Answer::Refused(11);
     }
-    if ends::is_odd(corners, clearance, wets, axis, k, level) {
-        let n = crate::point_of(
-            cells,
-            corners,
-            clearance,
-            wets,
-            lowest,
-            numbers,
-            axis,
-            k,
-            level,
-        );
-        let p = crate::slot_point(
-            cells,
-            corners,
-            clearance,
-            lowest,
-            slots[n as usize] as usize,
-        );
-        return Answer::Found(Edge::Crossing(n as u32, p.x, p.y, p.z));
+    let end = ends::upper_end(cells, corners, lowest, far, axis, k, level);
+    if wets[k] == wets[end] {
+        return Answer::Found(Edge::Even);
     }
-    Answer::Found(Edge::Even)
+    let slot = ends::carrier_slot(cells, corners, clearance, wets, lowest, far, axis, k, level);
+    let n = crate::count_crossed(cells, corners, clearance, wets, lowest, far, slot) as u32;
+    let p = crate::slot_point(cells, corners, clearance, lowest, far, slot);
+    Answer::Found(Edge::Crossing(n, p.x, p.y, p.z))
 }
 
 // The enquiry of an accepted survey: the tables, and the answer from them.
@@ -84,21 +68,21 @@ pub fn enquire_accepted(
     let mut levels = [0u8; 2049];
     let mut lowest = [11u8; 14616];
     let mut highest = [0u8; 14616];
+    let mut far = [0u16; 14616];
+    let mut octants = [0u16; 16392];
     let mut wets = [0u8; 4872];
-    let mut numbers = [0u16; 14616];
-    let mut slots = [0u16; 14616];
     let deep = cells::lay_out(cells, cells.len() / 4, &mut keys, &mut levels);
-    crate::fill_levels(cells, corners, &keys, &levels, &mut lowest, &mut highest);
-    crate::fill_wets(corners, clearance, &mut wets);
-    let n = crate::number_slots(
+    octants::fill(cells, corners, &keys, &levels, &mut octants);
+    crate::fill_levels(
         cells,
         corners,
-        clearance,
-        &wets,
-        &lowest,
-        &mut numbers,
-        &mut slots,
+        &octants,
+        &levels,
+        &mut lowest,
+        &mut highest,
+        &mut far,
     );
+    crate::fill_wets(corners, clearance, &mut wets);
     edge_answer(
         cells,
         corners,
@@ -106,8 +90,7 @@ pub fn enquire_accepted(
         &wets,
         &lowest,
         &highest,
-        &numbers,
-        &slots,
+        &far,
         axis,
         x,
         y,

@@ -1,64 +1,85 @@
-// Edges by the corner record at which they start: their other end, parity, the edge above, and the place of a point.
+// Edges by the corner record at which they start: their upper end, their odd half, whether they are upper halves, and the place of a point.
 ghost use mathlib.Core.Path.{_≡_};
-ghost use mathlib.Core.Bool.{cond};
-ghost use Prim.Native.Nat.{_/_, _^_, _≤_, _<_};
-ghost use lib.Dec.{T};
-ghost use lib.ListN.{length};
-ghost use Rattle.base.specs.Lists.{any};
-ghost use Rattle.base.specs.Grid.{axisOf, move, same};
-ghost use Rattle.rules.specs.Survey.{cornersOf, wetAt};
-ghost use Rattle.rules.specs.Edges.{edge, odd, spotOn};
+ghost use mathlib.Core.Bool.{true, not, cond};
+ghost use Prim.Native.Nat.{_/_, _≤_, _<_};
+ghost use lib.Dec.{T, eqb};
+ghost use lib.ListN.{length, getD};
+ghost use Rattle.base.specs.Grid.{axisOf};
+ghost use Rattle.rules.specs.Survey.{cellsOf, cornersOf};
+ghost use Rattle.rules.specs.Edges.{edge, isEdge, spotOn};
+ghost use Rattle.rules.specs.Outputs.{surveyRefusal, accepted, surveyOf};
 ghost use Rattle.places.specs.Places.{asSpot};
-ghost use Rattle.rules.specs.Steps.{isUpper, above, other};
-ghost use Rattle.records.specs.Keys.{keyOf, placesOf, recordAt};
-ghost use Rattle.edges.specs.Tables.{placeAt, Wets};
+ghost use Rattle.rules.specs.Steps.{isUpper};
+ghost use Rattle.records.specs.Keys.{placesOf};
+ghost use Rattle.edges.specs.Tables.{placeAt, Wets, Lowest, Far, UpperEnd, OddEdge, CarrierSlot};
 ghost use Rattle.edges.specs.Noting.{Corners};
 use super::keys;
 use places::Point;
 
-// The record at the upper end of the edge of this level that starts at record k on an axis.
-pub fn upper_end(corners: &[u8], axis: u32, k: usize, level: u8) -> usize
-    requires { ⌜ Corners (now corners) ⌝ }
-    requires { ⌜ (k < length (now corners) / 10) × (level ≤ 10) ⌝ }
-    ensures { λ r. ⌜ r ≡ recordAt (now (corners .entry)) (keyOf (move (axisOf axis) (2 ^ level) (placeAt (placesOf (now (corners .entry))) k))) ⌝ }
+// The record at the upper end of the edge of this level that starts at record k on an axis: from the table for the lowest level there, else by a search.
+pub fn upper_end(
+    cells: &[u8],
+    corners: &[u8],
+    lowest: &[u8],
+    far: &[u16],
+    axis: u32,
+    k: usize,
+    level: u8,
+) -> usize
+    requires { ⌜ surveyRefusal (now cells) (now corners) ≡ 0 ⌝ }
+    requires { ⌜ Lowest (now cells) (now corners) (now lowest) ⌝ }
+    requires { ⌜ Far (now cells) (now corners) (now far) ⌝ }
+    requires { ⌜ (axis < 3) × (k < length (now corners) / 10) × T (isEdge (cellsOf (now cells)) (axisOf axis) (placeAt (placesOf (now corners)) k) level) ⌝ }
+    ensures { λ r. ⌜ UpperEnd (now (corners .entry)) (axisOf axis) k level r ⌝ }
 {
+    let slot = 4872 * (axis as usize) + k;
+    if lowest[slot] == level {
+        return far[slot] as usize;
+    }
     reader::find(
         corners,
         keys::step(records::key_at(corners, k), axis, level),
     )
 }
 
-// The edge is odd: its ends differ in wetness.
-pub fn is_odd(corners: &[u8], clearance: f32, wets: &[u8], axis: u32, k: usize, level: u8) -> bool
-    requires { ⌜ Corners (now corners) ⌝ }
-    requires { ⌜ Wets (now corners) clearance (now wets) ⌝ }
-    requires { ⌜ (k < length (now corners) / 10) × (level ≤ 10)
-        × T (any (same (move (axisOf axis) (2 ^ level) (placeAt (placesOf (now corners)) k))) (placesOf (now corners))) ⌝ }
-    ensures { λ r. ⌜ r ≡ odd (wetAt (cornersOf (now (corners .entry))) clearance) (axisOf axis) (placeAt (placesOf (now (corners .entry))) k) level ⌝ }
+// Of an odd edge that is divided, the record at which its odd half starts: its own start, or its middle.
+pub fn odd_half(wets: &[u8], k: usize, middle: usize) -> usize
+    requires { ⌜ (k < length (now wets)) × (middle < length (now wets)) ⌝ }
+    ensures { λ r. ⌜ r ≡ cond (not (eqb (getD (now (wets .entry)) k 0) (getD (now (wets .entry)) middle 0))) k middle ⌝ }
 {
-    wets[k] != wets[upper_end(corners, axis, k, level)]
+    if wets[k] != wets[middle] {
+        return k;
+    }
+    middle
 }
 
-// Of an odd edge that is divided, the record at which its odd half starts; `level` is the half's.
-pub fn odd_half(
+// The slot of the edge that carries the point of an odd edge: down to its odd half while it is divided.
+pub fn carrier_slot(
+    cells: &[u8],
     corners: &[u8],
     clearance: f32,
     wets: &[u8],
+    lowest: &[u8],
+    far: &[u16],
     axis: u32,
-    k: usize,
-    level: u8,
+    start: usize,
+    top: u8,
 ) -> usize
-    requires { ⌜ Corners (now corners) ⌝ }
+    requires { ⌜ accepted (now cells) (now corners) clearance ≡ true ⌝ }
     requires { ⌜ Wets (now corners) clearance (now wets) ⌝ }
-    requires { ⌜ (k < length (now corners) / 10) × (level ≤ 10)
-        × T (any (same (move (axisOf axis) (2 ^ level) (placeAt (placesOf (now corners)) k))) (placesOf (now corners))) ⌝ }
-    ensures { λ r. ⌜ r ≡ cond (odd (wetAt (cornersOf (now (corners .entry))) clearance) (axisOf axis) (placeAt (placesOf (now (corners .entry))) k) level)
-        k (recordAt (now (corners .entry)) (keyOf (move (axisOf axis) (2 ^ level) (placeAt (placesOf (now (corners .entry))) k)))) ⌝ }
+    requires { ⌜ Lowest (now cells) (now corners) (now lowest) ⌝ }
+    requires { ⌜ Far (now cells) (now corners) (now far) ⌝ }
+    requires { ⌜ (axis < 3) × OddEdge (now cells) (now corners) clearance (axisOf axis) start top ⌝ }
+    ensures { λ r. ⌜ CarrierSlot (surveyOf (now (cells .entry)) (now (corners .entry)) clearance) (axisOf axis) (placeAt (placesOf (now (corners .entry))) start) top r ⌝ }
 {
-    if is_odd(corners, clearance, wets, axis, k, level) {
-        return k;
+    let mut k = start;
+    let mut level = top;
+    while lowest[4872 * (axis as usize) + k] < level {
+        level -= 1;
+        let middle = upper_end(cells, corners, lowest, far, axis, k, level);
+        k = odd_half(wets, k, middle);
     }
-    upper_end(corners, axis, k, level)
+    4872 * (axis as usize) + k
 }
 
 // The edge is the upper half of the edge above it.
@@ -71,41 +92,20 @@ pub fn is_upper(corners: &[u8], axis: u32, k: usize, level: u8) -> bool
     v / size % 2 == 1
 }
 
-// The key of the place at which the edge above starts.
-pub fn above_key(corners: &[u8], axis: u32, k: usize, level: u8) -> u64
+// The place of the point on an odd edge between two corner records: reckoned from its dry end.
+pub fn edge_point(
+    corners: &[u8],
+    clearance: f32,
+    axis: u32,
+    k: usize,
+    end: usize,
+    level: u8,
+) -> Point
     requires { ⌜ Corners (now corners) ⌝ }
-    requires { ⌜ (k < length (now corners) / 10) × (level ≤ 10) ⌝ }
-    ensures { λ r. ⌜ r ≡ keyOf (above (axisOf axis) (placeAt (placesOf (now (corners .entry))) k) level) ⌝ }
-{
-    let key = records::key_at(corners, k);
-    if is_upper(corners, axis, k, level) {
-        return keys::step_back(key, axis, level);
-    }
-    key
-}
-
-// The key of the place at which the other half of the edge above starts.
-pub fn other_key(corners: &[u8], axis: u32, k: usize, level: u8) -> u64
-    requires { ⌜ Corners (now corners) ⌝ }
-    requires { ⌜ (k < length (now corners) / 10) × (level ≤ 10) ⌝ }
-    ensures { λ r. ⌜ r ≡ keyOf (other (axisOf axis) (placeAt (placesOf (now (corners .entry))) k) level) ⌝ }
-{
-    let key = records::key_at(corners, k);
-    if is_upper(corners, axis, k, level) {
-        return keys::step_back(key, axis, level);
-    }
-    keys::step(key, axis, level)
-}
-
-// The place of the point on an odd edge, from corner record k on: reckoned from its dry end.
-pub fn edge_point(corners: &[u8], clearance: f32, axis: u32, k: usize, level: u8) -> Point
-    requires { ⌜ Corners (now corners) ⌝ }
-    requires { ⌜ (k < length (now corners) / 10) × (level ≤ 10)
-        × T (any (same (move (axisOf axis) (2 ^ level) (placeAt (placesOf (now corners)) k))) (placesOf (now corners))) ⌝ }
+    requires { ⌜ (k < length (now corners) / 10) × (level ≤ 10) × UpperEnd (now corners) (axisOf axis) k level end ⌝ }
     ensures { λ r. ⌜ asSpot r ≡ spotOn (cornersOf (now (corners .entry))) clearance (edge (axisOf axis) (placeAt (placesOf (now (corners .entry))) k) level) ⌝ }
 {
-    let far = upper_end(corners, axis, k, level);
     let lower = records::corner_at(corners, k);
-    let upper = records::corner_at(corners, far);
+    let upper = records::corner_at(corners, end);
     places::point_of(lower, upper, axis, cells::size_of(level) as u16, clearance)
 }

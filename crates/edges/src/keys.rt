@@ -1,10 +1,11 @@
 // Levels, lengths and keys as numbers.
 ghost use mathlib.Core.Path.{_≡_};
-ghost use mathlib.Core.Bool.{true};
+ghost use mathlib.Core.Bool.{true, cond};
 ghost use Prim.Native.Nat.{_+_, _-_, _*_, _^_, _≤_, _<_, min, max};
+ghost use lib.Dec.{ltb};
 ghost use lib.ListN.{length};
 ghost use Rattle.base.specs.Lists.{bit};
-ghost use Rattle.base.specs.Grid.{axisOf, next};
+ghost use Rattle.base.specs.Grid.{axisOf};
 ghost use Rattle.rules.specs.Edges.{edge};
 ghost use Rattle.edges.specs.Noting.{keyUnit};
 ghost use Rattle.rules.specs.Outputs.{levelOf};
@@ -29,6 +30,16 @@ pub fn higher(a: u8, b: u8) -> u8
     a
 }
 
+// The upper end of the edge of the lower of two levels: of one with this level and end, and of one with the level and end that are known; those where they are equal.
+pub fn end_of_lower(level: u8, end: u16, low: u8, known: u16) -> u16
+    ensures { λ r. ⌜ r ≡ cond (ltb level low) end known ⌝ }
+{
+    if level < low {
+        return end;
+    }
+    known
+}
+
 // How much a step of 1 on an axis adds to the key of a place.
 pub fn unit(axis: u32) -> u64
     ensures { λ r. ⌜ (r ≡ keyUnit (axisOf axis)) × (r ≤ 4294967296) ⌝ }
@@ -40,19 +51,6 @@ pub fn unit(axis: u32) -> u64
         return 65536;
     }
     4294967296
-}
-
-// The axis that follows another: after z comes x again.
-pub fn after(axis: u32) -> u32
-    ensures { λ r. ⌜ (axisOf r ≡ next (axisOf axis)) × (r < 3) ⌝ }
-{
-    if axis == 0 {
-        return 1;
-    }
-    if axis == 1 {
-        return 2;
-    }
-    0
 }
 
 // The key of the place that is the length of an edge of this level further on an axis.

@@ -1,24 +1,23 @@
 // Edges and crossing points of a survey: the tables of levels and numbers, the point of an odd edge, twins, and the edge enquiry.
-// Uses records, reader, cells, checks and places. specs/ says what each table holds.
+// Uses records, reader, cells, checks, octants and places. specs/ says what each table holds.
 ghost use mathlib.Core.Path.{_≡_};
 ghost use mathlib.Core.Bool.{true, cond};
-ghost use mathlib.Core.List.{[], _∷_};
-ghost use Prim.Native.Nat.{_+_, _*_, _/_, _≤_, _<_};
-ghost use lib.Dec.{T};
-ghost use lib.ListN.{length, set};
-ghost use Rattle.base.specs.Lists.{any, bit};
-ghost use Rattle.base.specs.Grid.{Place, axisOf, same};
-ghost use Rattle.rules.specs.Survey.{Cell, cellsOf, cornersOf};
+ghost use mathlib.Core.List.{[]};
+ghost use Prim.Native.Nat.{_+_, _*_, _/_, _≤_, _<_, min, max};
+ghost use lib.Dec.{T, ltb};
+ghost use lib.ListN.{length, getD, set, drop};
+ghost use Rattle.base.specs.Lists.{bit};
+ghost use Rattle.base.specs.Grid.{Place, axisOf};
+ghost use Rattle.rules.specs.Survey.{cellsOf, cornersOf};
 ghost use Rattle.rules.specs.Edges.{edge, odd, pointEdges, pointOf, spotOn};
 ghost use Rattle.places.specs.Places.{asSpot};
-ghost use Rattle.rules.specs.Closing.{cellEdgesOn};
 ghost use Rattle.rules.specs.Outputs.{rising, surveyRefusal, accepted, surveyOf, pointFloats, written};
 ghost use Rattle.records.specs.Keys.{keyOf, placesOf};
-ghost use Rattle.edges.specs.Tables.{cellEdges, edgesOf, placeAt, crossedSlot, slotEdge, Levels, Lowest};
-ghost use Rattle.edges.specs.Tables.{Highest, Wets, Numbers, Slots, Twins, OddEdge, Sought};
+ghost use Rattle.edges.specs.Tables.{edgesOf, placeAt, crossedSlot, slotsBelow, slotEdge, CellLevels, Levels, Lowest};
+ghost use Rattle.edges.specs.Tables.{Highest, Far, Wets, Numbers, Slots, Twins, OddEdge, Sought};
 ghost use Rattle.records.proofs.Keys.{Short};
-ghost use Rattle.edges.specs.Noting.{Noting, Noted, Cornered};
-ghost use Rattle.cells.specs.Laid.{Laid};
+ghost use Rattle.cells.specs.Laid.{cellAt};
+ghost use Rattle.octants.specs.Octants.{Octants};
 ghost use Rattle.rules.specs.Outputs.{enquiry};
 use places::Point;
 use rules::Answer;
@@ -28,78 +27,78 @@ mod ends;
 mod keys;
 mod pairs;
 
-// Notes one edge: on an axis, from the place with this key on, of this level.
-fn note_edge(corners: &[u8], lowest: &mut [u8], highest: &mut [u8], axis: u32, key: u64, level: u8)
-    requires { ⌜ Noting (now corners) (now lowest) (now highest) ⌝ }
-    requires { ⌜ axis < 3 ⌝ }
-    ensures { λ _. ⌜ Noting (now (corners .entry)) (now (lowest .exit)) (now (highest .exit)) ⌝ }
-    ensures { λ _. ⌜ ((p : Place) → key ≡ keyOf p → T (any (same p) (placesOf (now (corners .entry))))
-        → Noted (placesOf (now (corners .entry))) (edge (axisOf axis) p level ∷ [])
-        (now (lowest .entry)) (now (highest .entry)) (now (lowest .exit)) (now (highest .exit))) ⌝ }
+// The corners of a cell at which its twelve edges start and end: four edges for each axis.
+const STARTS: [usize; 12] = [0, 2, 4, 6, 0, 4, 1, 5, 0, 1, 2, 3];
+
+const ENDS: [usize; 12] = [1, 3, 5, 7, 2, 6, 3, 7, 4, 5, 6, 7];
+
+// Notes one edge at its slot: its level, and the corner record at its upper end.
+fn note_edge(
+    lowest: &mut [u8],
+    highest: &mut [u8],
+    far: &mut [u16],
+    slot: usize,
+    level: u8,
+    end: u16,
+)
+    requires { ⌜ (slot < length (now lowest)) × (slot < length (now highest)) × (slot < length (now far)) ⌝ }
+    ensures { λ _. ⌜ now (lowest .exit) ≡ set (now (lowest .entry)) slot (min level (getD (now (lowest .entry)) slot 0)) ⌝ }
+    ensures { λ _. ⌜ now (highest .exit) ≡ set (now (highest .entry)) slot (max level (getD (now (highest .entry)) slot 0)) ⌝ }
+    ensures { λ _. ⌜ now (far .exit) ≡ set (now (far .entry)) slot
+        (cond (ltb level (getD (now (lowest .entry)) slot 0)) end (getD (now (far .entry)) slot 0)) ⌝ }
 {
-    let count = corners.len() / 10;
-    let k = reader::find(corners, key);
-    if k >= count {
-        return;
+    far[slot] = keys::end_of_lower(level, end, lowest[slot], far[slot]);
+    lowest[slot] = keys::lower(level, lowest[slot]);
+    highest[slot] = keys::higher(level, highest[slot]);
+}
+
+// Notes the edges of the cell of record `n`.
+fn note_cell(
+    cells: &[u8],
+    corners: &[u8],
+    octants: &[u16],
+    lowest: &mut [u8],
+    highest: &mut [u8],
+    far: &mut [u16],
+    n: usize,
+    level: u8,
+)
+    requires { ⌜ surveyRefusal (now cells) (now corners) ≡ 0 ⌝ }
+    requires { ⌜ Octants (now cells) (now corners) (now octants) ⌝ }
+    requires { ⌜ (n < length (now cells) / 4) × (level ≡ cellAt (now cells) n .level) ⌝ }
+    requires { ⌜ Levels (now corners) (edgesOf (drop (n + 1) (cellsOf (now cells)))) (now lowest) (now highest) (now far) ⌝ }
+    ensures { λ _. ⌜ Levels (now (corners .entry)) (edgesOf (drop n (cellsOf (now (cells .entry)))))
+        (now (lowest .exit)) (now (highest .exit)) (now (far .exit)) ⌝ }
+{
+    let mut e: usize = 12;
+    while e > 0 {
+        e -= 1;
+        let start = octants[8 * n + STARTS[e]] as usize;
+        let end = octants[8 * n + ENDS[e]];
+        note_edge(lowest, highest, far, 4872 * (e / 4) + start, level, end);
     }
-    let at = 4872 * (axis as usize) + k;
-    let low = keys::lower(level, lowest[at]);
-    let high = keys::higher(level, highest[at]);
-    lowest[at] = low;
-    highest[at] = high;
 }
 
-// Notes the four edges that a cell has on an axis.
-fn note_axis(corners: &[u8], lowest: &mut [u8], highest: &mut [u8], axis: u32, key: u64, level: u8)
-    requires { ⌜ Noting (now corners) (now lowest) (now highest) ⌝ }
-    requires { ⌜ (axis < 3) × (key ≤ 140737488355328) × (level ≤ 10) ⌝ }
-    ensures { λ _. ⌜ Noting (now (corners .entry)) (now (lowest .exit)) (now (highest .exit)) ⌝ }
-    ensures { λ _. ⌜ ((c : Cell) → key ≡ keyOf (c .low) → level ≡ c .level → Cornered (placesOf (now (corners .entry))) c
-        → Noted (placesOf (now (corners .entry))) (cellEdgesOn c (axisOf axis))
-        (now (lowest .entry)) (now (highest .entry)) (now (lowest .exit)) (now (highest .exit))) ⌝ }
-{
-    let second = keys::after(axis);
-    let right = keys::step(key, second, level);
-    let up = keys::step(key, keys::after(second), level);
-    let far = keys::step(up, second, level);
-    note_edge(corners, lowest, highest, axis, far, level);
-    note_edge(corners, lowest, highest, axis, up, level);
-    note_edge(corners, lowest, highest, axis, right, level);
-    note_edge(corners, lowest, highest, axis, key, level);
-}
-
-// Notes the edges of a cell.
-fn note_cell(corners: &[u8], lowest: &mut [u8], highest: &mut [u8], key: u64, level: u8)
-    requires { ⌜ Noting (now corners) (now lowest) (now highest) ⌝ }
-    requires { ⌜ (key ≤ 140737488355328) × (level ≤ 10) ⌝ }
-    ensures { λ _. ⌜ Noting (now (corners .entry)) (now (lowest .exit)) (now (highest .exit)) ⌝ }
-    ensures { λ _. ⌜ ((c : Cell) → key ≡ keyOf (c .low) → level ≡ c .level → Cornered (placesOf (now (corners .entry))) c
-        → Noted (placesOf (now (corners .entry))) (cellEdges c) (now (lowest .entry)) (now (highest .entry)) (now (lowest .exit)) (now (highest .exit))) ⌝ }
-{
-    note_axis(corners, lowest, highest, 2, key, level);
-    note_axis(corners, lowest, highest, 1, key, level);
-    note_axis(corners, lowest, highest, 0, key, level);
-}
-
-// The tables of levels, filled: of the edges of all cells, record by record.
+// The tables of levels and upper ends, filled: of the edges of all cells, record by record.
 pub fn fill_levels(
     cells: &[u8],
     corners: &[u8],
-    keys: &[u64],
+    octants: &[u16],
     levels: &[u8],
     lowest: &mut [u8],
     highest: &mut [u8],
+    far: &mut [u16],
 )
     requires { ⌜ surveyRefusal (now cells) (now corners) ≡ 0 ⌝ }
-    requires { ⌜ Laid (now cells) (now keys) (now levels) ⌝ }
-    requires { ⌜ (length (now cells) / 4 ≤ length (now keys)) × (length (now cells) / 4 ≤ length (now levels)) ⌝ }
-    requires { ⌜ Levels (placesOf (now corners)) [] (now lowest) (now highest) ⌝ }
-    ensures { λ _. ⌜ Levels (placesOf (now (corners .entry))) (edgesOf (cellsOf (now (cells .entry)))) (now (lowest .exit)) (now (highest .exit)) ⌝ }
+    requires { ⌜ Octants (now cells) (now corners) (now octants) ⌝ }
+    requires { ⌜ CellLevels (now cells) (now levels) ⌝ }
+    requires { ⌜ Levels (now corners) [] (now lowest) (now highest) (now far) ⌝ }
+    ensures { λ _. ⌜ Levels (now (corners .entry)) (edgesOf (cellsOf (now (cells .entry)))) (now (lowest .exit)) (now (highest .exit)) (now (far .exit)) ⌝ }
 {
-    let mut i = cells.len() / 4;
-    while i > 0 {
-        i -= 1;
-        note_cell(corners, lowest, highest, keys[i], levels[i]);
+    let mut n = cells.len() / 4;
+    while n > 0 {
+        n -= 1;
+        note_cell(cells, corners, octants, lowest, highest, far, n, levels[n]);
     }
 }
 
@@ -124,11 +123,13 @@ fn is_crossed(
     clearance: f32,
     wets: &[u8],
     lowest: &[u8],
+    far: &[u16],
     slot: usize,
 ) -> bool
     requires { ⌜ accepted (now cells) (now corners) clearance ≡ true ⌝ }
     requires { ⌜ Wets (now corners) clearance (now wets) ⌝ }
     requires { ⌜ Lowest (now cells) (now corners) (now lowest) ⌝ }
+    requires { ⌜ Far (now cells) (now corners) (now far) ⌝ }
     requires { ⌜ slot < 14616 ⌝ }
     ensures { λ r. ⌜ r ≡ crossedSlot (surveyOf (now (cells .entry)) (now (corners .entry)) clearance) slot ⌝ }
 {
@@ -136,11 +137,10 @@ fn is_crossed(
     if k >= corners.len() / 10 {
         return false;
     }
-    let level = lowest[slot];
-    if level > 10 {
+    if lowest[slot] > 10 {
         return false;
     }
-    ends::is_odd(corners, clearance, wets, (slot / 4872) as u32, k, level)
+    wets[k] != wets[far[slot] as usize]
 }
 
 // Enters a crossed slot as point n; the number of points then.
@@ -162,12 +162,14 @@ pub fn number_slots(
     clearance: f32,
     wets: &[u8],
     lowest: &[u8],
+    far: &[u16],
     numbers: &mut [u16],
     slots: &mut [u16],
 ) -> usize
     requires { ⌜ accepted (now cells) (now corners) clearance ≡ true ⌝ }
     requires { ⌜ Wets (now corners) clearance (now wets) ⌝ }
     requires { ⌜ Lowest (now cells) (now corners) (now lowest) ⌝ }
+    requires { ⌜ Far (now cells) (now corners) (now far) ⌝ }
     requires { ⌜ (length (now numbers) ≡ 14616) × (length (now slots) ≡ 14616) ⌝ }
     ensures { λ r. ⌜ r ≡ length (pointEdges (surveyOf (now (cells .entry)) (now (corners .entry)) clearance)) ⌝ }
     ensures { λ _. ⌜ Numbers (surveyOf (now (cells .entry)) (now (corners .entry)) clearance) (now (numbers .exit)) ⌝ }
@@ -181,20 +183,48 @@ pub fn number_slots(
             slots,
             n,
             slot,
-            is_crossed(cells, corners, clearance, wets, lowest, slot),
+            is_crossed(cells, corners, clearance, wets, lowest, far, slot),
         );
         slot += 1;
     }
     n
 }
 
-// The point of an odd edge: down to its odd half while it is divided.
+// How many crossed slots come before a slot.
+fn count_crossed(
+    cells: &[u8],
+    corners: &[u8],
+    clearance: f32,
+    wets: &[u8],
+    lowest: &[u8],
+    far: &[u16],
+    slot: usize,
+) -> usize
+    requires { ⌜ accepted (now cells) (now corners) clearance ≡ true ⌝ }
+    requires { ⌜ Wets (now corners) clearance (now wets) ⌝ }
+    requires { ⌜ Lowest (now cells) (now corners) (now lowest) ⌝ }
+    requires { ⌜ Far (now cells) (now corners) (now far) ⌝ }
+    requires { ⌜ slot < 14616 ⌝ }
+    ensures { λ r. ⌜ r ≡ length (slotsBelow (surveyOf (now (cells .entry)) (now (corners .entry)) clearance) slot) ⌝ }
+{
+    let mut n: usize = 0;
+    let mut i: usize = 0;
+    while i < slot {
+        let crossed = is_crossed(cells, corners, clearance, wets, lowest, far, i);
+        n += keys::mark(crossed) as usize;
+        i += 1;
+    }
+    n
+}
+
+// The point of an odd edge: the number of the slot that carries it.
 pub fn point_of(
     cells: &[u8],
     corners: &[u8],
     clearance: f32,
     wets: &[u8],
     lowest: &[u8],
+    far: &[u16],
     numbers: &[u16],
     axis: u32,
     start: usize,
@@ -203,18 +233,24 @@ pub fn point_of(
     requires { ⌜ accepted (now cells) (now corners) clearance ≡ true ⌝ }
     requires { ⌜ Wets (now corners) clearance (now wets) ⌝ }
     requires { ⌜ Lowest (now cells) (now corners) (now lowest) ⌝ }
+    requires { ⌜ Far (now cells) (now corners) (now far) ⌝ }
     requires { ⌜ Numbers (surveyOf (now cells) (now corners) clearance) (now numbers) ⌝ }
     requires { ⌜ (axis < 3) × OddEdge (now cells) (now corners) clearance (axisOf axis) start top ⌝ }
     ensures { λ r. ⌜ r ≡ pointOf (surveyOf (now (cells .entry)) (now (corners .entry)) clearance)
         (edge (axisOf axis) (placeAt (placesOf (now (corners .entry))) start) top) ⌝ }
 {
-    let mut k = start;
-    let mut level = top;
-    while lowest[4872 * (axis as usize) + k] < level {
-        level -= 1;
-        k = ends::odd_half(corners, clearance, wets, axis, k, level);
-    }
-    numbers[4872 * (axis as usize) + k]
+    let slot = ends::carrier_slot(
+        cells,
+        corners,
+        clearance,
+        wets,
+        lowest,
+        far,
+        axis,
+        start,
+        top,
+    );
+    numbers[slot]
 }
 
 // The corner record at which the edge of this level from the place with this key starts; the number of records where no cell has the edge.
@@ -257,6 +293,7 @@ pub fn fill_twins(
     wets: &[u8],
     lowest: &[u8],
     highest: &[u8],
+    far: &[u16],
     numbers: &[u16],
     slots: &[u16],
     n: usize,
@@ -266,6 +303,7 @@ pub fn fill_twins(
     requires { ⌜ Wets (now corners) clearance (now wets) ⌝ }
     requires { ⌜ Lowest (now cells) (now corners) (now lowest) ⌝ }
     requires { ⌜ Highest (now cells) (now corners) (now highest) ⌝ }
+    requires { ⌜ Far (now cells) (now corners) (now far) ⌝ }
     requires { ⌜ Numbers (surveyOf (now cells) (now corners) clearance) (now numbers) ⌝ }
     requires { ⌜ Slots (surveyOf (now cells) (now corners) clearance) (now slots) ⌝ }
     requires { ⌜ (n ≡ length (pointEdges (surveyOf (now cells) (now corners) clearance))) × (length (now twins) ≡ 14616) ⌝ }
@@ -280,6 +318,7 @@ pub fn fill_twins(
             wets,
             lowest,
             highest,
+            far,
             numbers,
             slots,
             v,
@@ -289,9 +328,17 @@ pub fn fill_twins(
 }
 
 // The place of the point of a crossed slot.
-fn slot_point(cells: &[u8], corners: &[u8], clearance: f32, lowest: &[u8], slot: usize) -> Point
+fn slot_point(
+    cells: &[u8],
+    corners: &[u8],
+    clearance: f32,
+    lowest: &[u8],
+    far: &[u16],
+    slot: usize,
+) -> Point
     requires { ⌜ accepted (now cells) (now corners) clearance ≡ true ⌝ }
     requires { ⌜ Lowest (now cells) (now corners) (now lowest) ⌝ }
+    requires { ⌜ Far (now cells) (now corners) (now far) ⌝ }
     requires { ⌜ (slot < 14616) × T (crossedSlot (surveyOf (now cells) (now corners) clearance) slot) ⌝ }
     ensures { λ r. ⌜ asSpot r ≡ spotOn (cornersOf (now (corners .entry))) clearance
         (slotEdge (surveyOf (now (cells .entry)) (now (corners .entry)) clearance) slot) ⌝ }
@@ -301,6 +348,7 @@ fn slot_point(cells: &[u8], corners: &[u8], clearance: f32, lowest: &[u8], slot:
         clearance,
         (slot / 4872) as u32,
         slot % 4872,
+        far[slot] as usize,
         lowest[slot],
     )
 }
@@ -311,12 +359,14 @@ pub fn write_points(
     corners: &[u8],
     clearance: f32,
     lowest: &[u8],
+    far: &[u16],
     slots: &[u16],
     n: usize,
     points: &mut [f32],
 )
     requires { ⌜ accepted (now cells) (now corners) clearance ≡ true ⌝ }
     requires { ⌜ Lowest (now cells) (now corners) (now lowest) ⌝ }
+    requires { ⌜ Far (now cells) (now corners) (now far) ⌝ }
     requires { ⌜ Slots (surveyOf (now cells) (now corners) clearance) (now slots) ⌝ }
     requires { ⌜ (n ≡ length (pointEdges (surveyOf (now cells) (now corners) clearance))) × (3 * n ≤ length (now points)) ⌝ }
     ensures { λ _. ⌜ now (points .exit) ≡ written (pointFloats (now (cells .entry)) (now (corners .entry)) clearance) (now (points .entry)) ⌝ }
@@ -326,7 +376,7 @@ pub fn write_points(
         places::put_point(
             points,
             v,
-            slot_point(cells, corners, clearance, lowest, slots[v] as usize),
+            slot_point(cells, corners, clearance, lowest, far, slots[v] as usize),
         );
         v += 1;
     }

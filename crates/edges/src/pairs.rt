@@ -4,14 +4,74 @@ ghost use mathlib.Core.Bool.{true};
 ghost use Prim.Native.Nat.{_+_, _/_, _<_};
 ghost use lib.ListN.{length};
 ghost use Rattle.base.specs.Grid.{axisOf};
-ghost use Rattle.rules.specs.Edges.{edge};
-ghost use Rattle.rules.specs.Steps.{above, other, twin, numberElse, twinOf};
+ghost use Rattle.rules.specs.Steps.{twin, numberElse, twinOf};
 ghost use Rattle.rules.specs.Outputs.{accepted, surveyOf};
 ghost use Rattle.records.specs.Keys.{placesOf};
-ghost use Rattle.edges.specs.Tables.{placeAt, slotsBelow, Lowest, Highest, Wets, Numbers, Slots, OddEdge};
+ghost use Rattle.edges.specs.Tables.{placeAt, slotsBelow, Lowest, Highest, Far, Wets, Numbers, Slots, OddEdge, UpperEnd, Risen};
 use super::ends;
+use super::keys;
 
-// The twin of point v, which the edge of level `bottom` from record `start` carries: up to the first even edge above, and down its other half.
+// The edge above an edge: the records at which it starts and ends, and at which its other half starts. Where no cell has it, `start` is the number of records.
+struct Above {
+    start: usize,
+    end: usize,
+    other: usize,
+}
+
+// From the edge of this level from record k to record `end` to the edge above. For a lower half it starts at the same record, so no search is needed.
+fn edge_above(
+    cells: &[u8],
+    corners: &[u8],
+    clearance: f32,
+    lowest: &[u8],
+    highest: &[u8],
+    far: &[u16],
+    axis: u32,
+    k: usize,
+    end: usize,
+    level: u8,
+) -> Above
+    requires { ⌜ accepted (now cells) (now corners) clearance ≡ true ⌝ }
+    requires { ⌜ Lowest (now cells) (now corners) (now lowest) ⌝ }
+    requires { ⌜ Highest (now cells) (now corners) (now highest) ⌝ }
+    requires { ⌜ Far (now cells) (now corners) (now far) ⌝ }
+    requires { ⌜ (axis < 3) × OddEdge (now cells) (now corners) clearance (axisOf axis) k level × UpperEnd (now corners) (axisOf axis) k level end ⌝ }
+    ensures { λ r. ⌜ Risen (now (cells .entry)) (now (corners .entry)) (axisOf axis) k level (r .start) (r .end) (r .other) ⌝ }
+{
+    if ends::is_upper(corners, axis, k, level) {
+        let key = keys::step_back(records::key_at(corners, k), axis, level);
+        let start = crate::edge_record(
+            cells,
+            corners,
+            clearance,
+            lowest,
+            highest,
+            axis,
+            key,
+            level + 1,
+        );
+        return Above {
+            start: start,
+            end: end,
+            other: start,
+        };
+    }
+    if highest[4872 * (axis as usize) + k] < level + 1 {
+        return Above {
+            start: corners.len() / 10,
+            end: end,
+            other: end,
+        };
+    }
+    Above {
+        start: k,
+        end: ends::upper_end(cells, corners, lowest, far, axis, end, level),
+        other: end,
+    }
+}
+
+// The twin of point v, which the edge of level `bottom` from record `start` to record `first` carries: up to the first even edge above, and down its
+// other half.
 pub fn climb(
     cells: &[u8],
     corners: &[u8],
@@ -19,9 +79,11 @@ pub fn climb(
     wets: &[u8],
     lowest: &[u8],
     highest: &[u8],
+    far: &[u16],
     numbers: &[u16],
     axis: u32,
     start: usize,
+    first: usize,
     bottom: u8,
     v: u16,
 ) -> u16
@@ -29,43 +91,49 @@ pub fn climb(
     requires { ⌜ Wets (now corners) clearance (now wets) ⌝ }
     requires { ⌜ Lowest (now cells) (now corners) (now lowest) ⌝ }
     requires { ⌜ Highest (now cells) (now corners) (now highest) ⌝ }
+    requires { ⌜ Far (now cells) (now corners) (now far) ⌝ }
     requires { ⌜ Numbers (surveyOf (now cells) (now corners) clearance) (now numbers) ⌝ }
-    requires { ⌜ (axis < 3) × OddEdge (now cells) (now corners) clearance (axisOf axis) start bottom ⌝ }
+    requires { ⌜ (axis < 3) × OddEdge (now cells) (now corners) clearance (axisOf axis) start bottom
+        × UpperEnd (now corners) (axisOf axis) start bottom first ⌝ }
     ensures { λ r. ⌜ r ≡ numberElse (surveyOf (now (cells .entry)) (now (corners .entry)) clearance) v
         (twin (surveyOf (now (cells .entry)) (now (corners .entry)) clearance) 10 (axisOf axis) (placeAt (placesOf (now (corners .entry))) start) bottom) ⌝ }
 {
     let count = corners.len() / 10;
     let mut k = start;
+    let mut end = first;
     let mut level = bottom;
     loop {
-        let up = crate::edge_record(
+        let above = edge_above(
             cells,
             corners,
             clearance,
             lowest,
             highest,
+            far,
             axis,
-            ends::above_key(corners, axis, k, level),
-            level + 1,
+            k,
+            end,
+            level,
         );
-        if up >= count {
+        k = above.start;
+        if k >= count {
             return v;
         }
-        if !ends::is_odd(corners, clearance, wets, axis, up, level + 1) {
-            let half = reader::find(corners, ends::other_key(corners, axis, k, level));
+        end = above.end;
+        if wets[k] == wets[end] {
             return crate::point_of(
                 cells,
                 corners,
                 clearance,
                 wets,
                 lowest,
+                far,
                 numbers,
                 axis,
-                half,
+                above.other,
                 level,
             );
         }
-        k = up;
         level += 1;
     }
 }
@@ -78,6 +146,7 @@ pub fn twin_of(
     wets: &[u8],
     lowest: &[u8],
     highest: &[u8],
+    far: &[u16],
     numbers: &[u16],
     slots: &[u16],
     v: usize,
@@ -86,6 +155,7 @@ pub fn twin_of(
     requires { ⌜ Wets (now corners) clearance (now wets) ⌝ }
     requires { ⌜ Lowest (now cells) (now corners) (now lowest) ⌝ }
     requires { ⌜ Highest (now cells) (now corners) (now highest) ⌝ }
+    requires { ⌜ Far (now cells) (now corners) (now far) ⌝ }
     requires { ⌜ Numbers (surveyOf (now cells) (now corners) clearance) (now numbers) ⌝ }
     requires { ⌜ Slots (surveyOf (now cells) (now corners) clearance) (now slots) ⌝ }
     requires { ⌜ (v < length (slotsBelow (surveyOf (now cells) (now corners) clearance) 14616)) × (v < 14616) ⌝ }
@@ -99,9 +169,11 @@ pub fn twin_of(
         wets,
         lowest,
         highest,
+        far,
         numbers,
         (slot / 4872) as u32,
         slot % 4872,
+        far[slot] as usize,
         lowest[slot],
         v as u16,
     )

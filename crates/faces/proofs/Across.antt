@@ -20,13 +20,17 @@ use Rattle.octree.proofs.Lawful.{isAt, isCell, isSplit, Octree}
 use Rattle.octree.proofs.Halves.{move-move}
 use Rattle.octree.proofs.Records.{split-record, split-level, SplitRecord}
 use Rattle.octree.proofs.Queue.{box}
-use Rattle.cells.specs.Laid.{cellAt}
+use Rattle.cells.specs.Laid.{octantKey, cellAt}
+use Rattle.cells.proofs.Octants.{size-fits}
 use Rattle.trace.specs.Trace.{Trace, Recorded}
-use Rattle.trace.proofs.Laws.{recorded-more}
 use Rattle.faces.specs.Descent.{placeWith, Grown}
-use Rattle.faces.specs.Faces.{sideAt, sideBit, octantBit, SideOf, Faced, Across, smallSteps}
+use Rattle.faces.specs.Faces.{sideAt, facet, sideOf, faceOf, sideBit, quarterBit, quarterOf, childAcross, octantBit, SideOf, Room, Faced, Across}
+use Rattle.faces.specs.Faces.{smallSteps, facetSteps}
+use Rattle.faces.specs.declared.Facet.{Facet}
 use Rattle.faces.proofs.Faces.{Axes, side-axes}
-use Rattle.faces.proofs.Keys.{across-is}
+use Rattle.faces.proofs.Firsts.{firsts}
+use Rattle.faces.proofs.Keys.{octant-place, octant-fits}
+use Rattle.faces.proofs.Looks.{grown, face-room}
 use Rattle.faces.proofs.Descent.{cell-is, split-is}
 
 collect-append : {A B : Type 0} (f : A → List B) (xs ys : List A) → collect f (xs ++ ys) ≡ collect f xs ++ collect f ys
@@ -42,16 +46,148 @@ pub record Quarters (a right up : Axis) (far : Bool) (s : ℕ) (q : Place) : Typ
   pub beyond : getD (octants s q) (cond far (octantBit a) 0 + octantBit right + octantBit up) origin ≡ move right s (move up s (cond far (move a s q) q))
 
 quarters-on : (a : Axis) (far : Bool) (s : ℕ) (q : Place) → Quarters a (next a) (next (next a)) far s q × Quarters a (next (next a)) (next a) far s q
-quarters-on X true s q = (record { near = refl; beside = refl; above = refl; beyond = refl }, record { near = refl; beside = refl; above = refl; beyond = refl })
-quarters-on Y true s q = (record { near = refl; beside = refl; above = refl; beyond = refl }, record { near = refl; beside = refl; above = refl; beyond = refl })
-quarters-on Z true s q = (record { near = refl; beside = refl; above = refl; beyond = refl }, record { near = refl; beside = refl; above = refl; beyond = refl })
-quarters-on X false s q = (record { near = refl; beside = refl; above = refl; beyond = refl }, record { near = refl; beside = refl; above = refl; beyond = refl })
-quarters-on Y false s q = (record { near = refl; beside = refl; above = refl; beyond = refl }, record { near = refl; beside = refl; above = refl; beyond = refl })
-quarters-on Z false s q = (record { near = refl; beside = refl; above = refl; beyond = refl }, record { near = refl; beside = refl; above = refl; beyond = refl })
+quarters-on X true s q =
+    (record { near = refl; beside = refl; above = refl; beyond = refl }, record { near = refl; beside = refl; above = refl; beyond = refl })
+quarters-on Y true s q =
+    (record { near = refl; beside = refl; above = refl; beyond = refl }, record { near = refl; beside = refl; above = refl; beyond = refl })
+quarters-on Z true s q =
+    (record { near = refl; beside = refl; above = refl; beyond = refl }, record { near = refl; beside = refl; above = refl; beyond = refl })
+quarters-on X false s q =
+    (record { near = refl; beside = refl; above = refl; beyond = refl }, record { near = refl; beside = refl; above = refl; beyond = refl })
+quarters-on Y false s q =
+    (record { near = refl; beside = refl; above = refl; beyond = refl }, record { near = refl; beside = refl; above = refl; beyond = refl })
+quarters-on Z false s q =
+    (record { near = refl; beside = refl; above = refl; beyond = refl }, record { near = refl; beside = refl; above = refl; beyond = refl })
 
 pub quarters : (n : ℕ) (u far : Bool) (s : ℕ) (q : Place) → Quarters (axisOf n) (sideAt n u .right) (sideAt n u .up) far s q
 quarters n true far s q = quarters-on (axisOf n) far s q .0
 quarters n false far s q = quarters-on (axisOf n) far s q .1
+
+-- the octant numbers that a side adds up are below 8
+pub eight : (n : ℕ) (u far : Bool) → sideBit n far + octantBit (sideAt n u .right) + octantBit (sideAt n u .up) < 8
+eight n true far = on (axisOf n) far
+  where
+    on : (a : Axis) (far : Bool) → cond far (octantBit a) 0 + octantBit (next a) + octantBit (next (next a)) < 8
+    on X true = omega arith
+    on Y true = omega arith
+    on Z true = omega arith
+    on X false = omega arith
+    on Y false = omega arith
+    on Z false = omega arith
+eight n false far = on (axisOf n) far
+  where
+    on : (a : Axis) (far : Bool) → cond far (octantBit a) 0 + octantBit (next (next a)) + octantBit (next a) < 8
+    on X true = omega arith
+    on Y true = omega arith
+    on Z true = omega arith
+    on X false = omega arith
+    on Y false = omega arith
+    on Z false = omega arith
+
+-- the lowest corner of quarter i of a face, of size d
+abbrev pub quarterLow : Side → ℕ → Place → ℕ → Place
+quarterLow s d p zero = p
+quarterLow s d p (suc zero) = move (s .right) d p
+quarterLow s d p (suc (suc zero)) = move (s .up) d p
+quarterLow s d p (suc (suc (suc i))) = move (s .right) d (move (s .up) d p)
+
+module _ (n : ℕ) (u far : Bool) where
+  pub quarter-few : (i : ℕ) → sideBit n far + quarterBit (sideAt n u) i < 8
+  quarter-few zero = omega (arith, eight n u far)
+  quarter-few (suc zero) = omega (arith, eight n u far)
+  quarter-few (suc (suc zero)) = omega (arith, eight n u far)
+  quarter-few (suc (suc (suc i))) = omega (arith, eight n u far)
+
+  -- the octant at quarter i of the far or the near side
+  pub quarter-octant : (d : ℕ) (q : Place) (i : ℕ) → getD (octants d q) (sideBit n far + quarterBit (sideAt n u) i) origin
+      ≡ quarterLow (sideAt n u) d (cond far (move (axisOf n) d q) q) i
+  quarter-octant d q zero =
+      let e : sideBit n far + 0 ≡ sideBit n far = omega arith in
+      ap (λ k. getD (octants d q) k origin) e ∙ quarters n u far d q .near
+  quarter-octant d q (suc zero) = quarters n u far d q .beside
+  quarter-octant d q (suc (suc zero)) = quarters n u far d q .above
+  quarter-octant d q (suc (suc (suc i))) =
+      let right = octantBit (sideAt n u .right) in
+      let up = octantBit (sideAt n u .up) in
+      let e : sideBit n far + (right + up) ≡ sideBit n far + right + up = omega arith in
+      ap (λ k. getD (octants d q) k origin) e ∙ quarters n u far d q .beyond
+
+-- the quarters of a face that is moved across
+quarter-across-by : (s : Side) → Axes s → (d : ℕ) (q : Place) (i : ℕ) → quarterLow s d (move (s .across) d q) i ≡ move (s .across) d (quarterLow s d q i)
+quarter-across-by s x d q zero = refl
+quarter-across-by s x d q (suc zero) = x .right-along d d q
+quarter-across-by s x d q (suc (suc zero)) = x .up-along d d q
+quarter-across-by s x d q (suc (suc (suc i))) = ap (move (s .right) d) (x .up-along d d q) ∙ x .right-along d d (move (s .up) d q)
+
+quarter-moved : (n : ℕ) (u : Bool) (d : ℕ) (q : Place) (i : ℕ) → quarterLow (sideAt n u) d (cond u q (move (axisOf n) d q)) i
+    ≡ cond u (quarterLow (sideAt n u) d q i) (move (axisOf n) d (quarterLow (sideAt n u) d q i))
+quarter-moved n true d q i = refl
+quarter-moved n false d q i = quarter-across-by (sideAt n false) (side-axes n false) d q i
+
+-- the quarters of a facet by their keys
+module _ (f : Facet) (room : Room f) (i : ℕ) where
+  bit-least : quarterBit (sideOf f) i < 8
+  bit-least = omega (arith, quarter-few (f .axis) (f .upper) false i)
+
+  short : 2 ^ (f .level - 1) ≤ 1024
+  short = size-fits (f .level - 1) (omega (arith, room .level-less))
+
+  pub quarter-place : placeWith (quarterOf f i .key) ≡ quarterLow (sideOf f) (2 ^ (f .level - 1)) (placeWith (f .key)) i
+  unfolding quarterOf
+  quarter-place =
+      let e : quarterBit (sideOf f) i ≡ 0 + quarterBit (sideOf f) i = omega arith in
+      octant-place (f .key) (2 ^ (f .level - 1)) (quarterBit (sideOf f) i) (room .boxed) short bit-least
+      ∙ ap (λ k. getD (octants (2 ^ (f .level - 1)) (placeWith (f .key))) k origin) e
+      ∙ quarter-octant (f .axis) (f .upper) false (2 ^ (f .level - 1)) (placeWith (f .key)) i
+
+  module _ (q s r : ℕ) (eq : q ≡ quarterBit (sideOf f) i) (es : s ≡ 2 ^ (f .level - 1)) (er : r ≡ octantKey q s) where
+    r-is : r ≡ octantKey (quarterBit (sideOf f) i) (2 ^ (f .level - 1))
+    r-is = er ∙ ap (λ b. octantKey b s) eq ∙ ap (octantKey (quarterBit (sideOf f) i)) es
+
+    pub quarter-short : s ≤ 1024
+    quarter-short = omega (arith, short)
+
+    pub quarter-fits : f .key + r < 18446744073709551616
+    quarter-fits = omega (arith, r-is, octant-fits (f .key) (2 ^ (f .level - 1)) (quarterBit (sideOf f) i) (room .boxed) short bit-least)
+
+    pub quarter-is : facet (f .axis) (f .upper) (f .key + r) (f .level - 1) ≡ quarterOf f i
+    unfolding quarterOf
+    quarter-is = ap (λ d. facet (f .axis) (f .upper) (f .key + d) (f .level - 1)) r-is
+
+-- what quarter i adds to the number of a child, from the numbers of the axes right and up
+module _ (f : Facet) (i m b o h : ℕ) (em : axisOf m ≡ sideOf f .right) (eb : b ≡ octantBit (axisOf m)) (eo : axisOf o ≡ sideOf f .up)
+    (eh : h ≡ octantBit (axisOf o)) where
+  b-is : b ≡ octantBit (sideOf f .right)
+  b-is = eb ∙ ap octantBit em
+
+  h-is : h ≡ octantBit (sideOf f .up)
+  h-is = eh ∙ ap octantBit eo
+
+  pub quarter-right : i ≡ 1 → (b ≡ quarterBit (sideOf f) i) × (b < 8)
+  quarter-right e = (b-is ∙ ap (quarterBit (sideOf f)) (sym e), omega (arith, b-is, eight (f .axis) (f .upper) false))
+
+  pub quarter-up : i ≡ 2 → (h ≡ quarterBit (sideOf f) i) × (h < 8)
+  quarter-up e = (h-is ∙ ap (quarterBit (sideOf f)) (sym e), omega (arith, h-is, eight (f .axis) (f .upper) false))
+
+  pub quarter-far : i < 4 → (i ≡ 0 → ⊥) → (i ≡ 1 → ⊥) → (i ≡ 2 → ⊥) → (b + h ≡ quarterBit (sideOf f) i) × (b + h < 8)
+  quarter-far l x y z =
+      let e : 3 ≡ i = omega arith in (
+        ap (λ v. v + h) b-is ∙ ap (λ v. octantBit (sideOf f .right) + v) h-is
+            ∙ ap (quarterBit (sideOf f)) e,
+        omega (arith, b-is, h-is, eight (f .axis) (f .upper) false),
+      )
+
+pub child-is : (f : Facet) (i b q : ℕ) → b ≡ sideBit (f .axis) (not (f .upper)) → q ≡ quarterBit (sideOf f) i → (b + q ≡ childAcross f i) × (b + q < 8)
+child-is f i b q eb eq =
+    (ap (λ v. v + q) eb ∙ ap (λ v. sideBit (f .axis) (not (f .upper)) + v) eq, omega (arith, eb, eq, quarter-few (f .axis) (f .upper) (not (f .upper)) i))
+
+pub quarter-level : (f : Facet) (i : ℕ) (r : Facet) → r ≡ quarterOf f i → r .level ≡ f .level - 1
+unfolding quarterOf
+quarter-level f i r e = ap (λ (g : Facet). g .level) e
+
+pub quarter-recorded : (s : Survey) (f : Facet) (i : ℕ) (r : Facet) (t u : Trace) → r ≡ quarterOf f i
+    → Recorded (facetSteps s r) t u → Recorded (facetSteps s (quarterOf f i)) t u
+quarter-recorded s f i r t u e h = subst (λ (g : Facet). Recorded (facetSteps s g) t u) e h
 
 -- ---- the split cell across
 
@@ -74,14 +210,9 @@ unfolding isSplit
 across-split cells n true l p q e = ap (λ x. any (λ c. c .split && (eqb l (c .level) && same x (c .low))) cells) e
 across-split cells n false l p q e =
     ap (λ x. any (λ c. c .split && (eqb l (c .level) && same x (move (axisOf n) (2 ^ l) (c .low)))) cells) e
-    ∙ any-same (λ c. c .split && (eqb l (c .level) && same (move (axisOf n) (2 ^ l) q) (move (axisOf n) (2 ^ l) (c .low)))) (λ c. c .split && isAt l q c) cells
+    ∙ any-same (λ c. c .split && (eqb l (c .level) && same (move (axisOf n) (2 ^ l) q) (move (axisOf n) (2 ^ l) (c .low))))
+    (λ c. c .split && isAt l q c) cells
     (λ c. ap (λ b. c .split && (eqb l (c .level) && b)) (same-moved (axisOf n) (2 ^ l) q (c .low)))
-
--- a move on the side of a face and of the cell across
-along-side : (n : ℕ) (u : Bool) (d : ℕ) (b : Axis) (p q : Place) → ((x : Place) → move b d (move (axisOf n) d x) ≡ move (axisOf n) d (move b d x))
-    → p ≡ cond u q (move (axisOf n) d q) → move b d p ≡ cond u (move b d q) (move (axisOf n) d (move b d q))
-along-side n true d b p q f e = ap (move b d) e
-along-side n false d b p q f e = ap (move b d) e ∙ f q
 
 -- ---- small faces
 
@@ -97,7 +228,8 @@ unfolding smallFaces
 split-face cells s p l e = rw e
 
 -- the steps of a face that is not divided
-pub whole-steps : (s : Survey) (side : Side) (p : Place) (l : ℕ) → any (splitAcross side p l) (s .cells) ≡ false → faceSteps s side (face p l) ≡ smallSteps s side p l
+pub whole-steps : (s : Survey) (side : Side) (p : Place) (l : ℕ) → any (splitAcross side p l) (s .cells) ≡ false → faceSteps s side (face p l)
+    ≡ smallSteps s side p l
 unfolding smallSteps
 whole-steps s side p l e = sym (append-nil (faceSteps s side (face p l))) ∙ sym (ap (collect (faceSteps s side)) (whole-face (s .cells) side p l e))
 
@@ -118,27 +250,36 @@ split-steps s side p l e =
 
 -- ---- going down into the cell across
 
-module _ (tc tk : List ℕ) (clearance : Float) (g : Grown tc) (axis : ℕ) (upper : Bool) (key level n : ℕ) (x : Across tc axis upper key level n) where
-  pub faced : Faced tc axis key level
-  faced = record { axis-less = x .axis-less; side = (cellAt tc n .low, subst (λ l. T (isCell (cellsOf tc) l (cellAt tc n .low))) (x .level-is) (cell-is tc g n (x .inside)), go upper (x .low-is)) }
+module _ (tc tk : List ℕ) (clearance : Float) (ok : accepted tc tk clearance ≡ true) (f : Facet) (n : ℕ) (x : Across tc f n) where
+  g : Grown tc
+  g = grown tc tk clearance ok
+
+  pub faced : Faced tc f
+  faced = record {
+    axis-less = x .axis-less;
+    side =
+        (cellAt tc n .low, subst (λ l. T (isCell (cellsOf tc) l (cellAt tc n .low))) (x .level-is) (cell-is tc g n (x .inside)), go (f .upper) (x .low-is));
+  }
     where
-      go : (u : Bool) → placeWith key ≡ cond u (cellAt tc n .low) (move (axisOf axis) (2 ^ level) (cellAt tc n .low))
-          → (placeWith key ≡ cellAt tc n .low) ⊎ (placeWith key ≡ move (axisOf axis) (2 ^ level) (cellAt tc n .low))
+      go : (u : Bool) → placeWith (f .key) ≡ cond u (cellAt tc n .low) (move (axisOf (f .axis)) (2 ^ f .level) (cellAt tc n .low))
+          → (placeWith (f .key) ≡ cellAt tc n .low) ⊎ (placeWith (f .key) ≡ move (axisOf (f .axis)) (2 ^ f .level) (cellAt tc n .low))
       go true e = inl e
       go false e = inr e
 
-  split-here : any (splitAcross (sideAt axis upper) (placeWith key) level) (cellsOf tc) ≡ not (eqb (entry tc n) 0)
+  pub room : Room f
+  room = face-room tc tk clearance ok f faced
+
+  split-here : any (splitAcross (sideOf f) (placeWith (f .key)) (f .level)) (cellsOf tc) ≡ not (eqb (entry tc n) 0)
   split-here =
-      across-split (cellsOf tc) axis upper level (placeWith key) (cellAt tc n .low) (x .low-is)
+      across-split (cellsOf tc) (f .axis) (f .upper) (f .level) (placeWith (f .key)) (cellAt tc n .low) (x .low-is)
       ∙ ap (λ l. isSplit (cellsOf tc) l (cellAt tc n .low)) (sym (x .level-is)) ∙ split-is tc g n (x .inside)
 
-  -- a leaf across: the face itself
+  -- a leaf across: the facet itself
   pub whole-recorded : (e : ℕ) (t u : Trace) → e ≡ entry tc n → e ≡ 0
-      → Recorded (faceSteps (surveyOf tc tk clearance) (sideAt axis upper) (face (placeWith key) level)) t u
-      → Recorded (smallSteps (surveyOf tc tk clearance) (sideAt axis upper) (placeWith key) level) t u
+      → Recorded (faceSteps (surveyOf tc tk clearance) (sideOf f) (faceOf f)) t u → Recorded (facetSteps (surveyOf tc tk clearance) f) t u
   unfolding surveyOf
   whole-recorded e t u r z h =
-      subst (λ ss. Recorded ss t u) (whole-steps (surveyOf tc tk clearance) (sideAt axis upper) (placeWith key) level (split-here ∙ rw (← r, z))) h
+      subst (λ ss. Recorded ss t u) (whole-steps (surveyOf tc tk clearance) (sideOf f) (placeWith (f .key)) (f .level) (split-here ∙ rw (← r, z))) h
 
   module _ (e : ℕ) (r : e ≡ entry tc n) (s : e ≡ 0 → ⊥) where
     mark : T (not (eqb (entry tc n) 0))
@@ -148,149 +289,73 @@ module _ (tc tk : List ℕ) (clearance : Float) (g : Grown tc) (axis : ℕ) (upp
     parts = split-record tc (g .entries-right) box n (x .inside) mark
 
     -- a split cell is above level 0
-    pub above-zero : 0 < level
+    pub above-zero : 0 < f .level
     above-zero = omega (arith, split-level tc (g .entries-right) (g .units-whole) box n (x .inside) mark, x .level-is)
 
     pub children-inside : e + 7 < length tc / 4
     children-inside = omega (arith, parts .fits)
 
-    less : level ≡ suc (level - 1)
+    less : f .level ≡ suc (f .level - 1)
     less = omega (arith, above-zero)
 
-    half-is : pred (cellAt tc n .level) ≡ level - 1
-    half-is = ap pred (x .level-is) ∙ (let h : pred level ≡ level - 1 = omega (arith, above-zero) in h)
+    half-is : pred (cellAt tc n .level) ≡ f .level - 1
+    half-is = ap pred (x .level-is) ∙ (let h : pred (f .level) ≡ f .level - 1 = omega (arith, above-zero) in h)
 
     -- the lowest corner of the child in place i
-    child-at : (i : ℕ) → i < 8 → cellAt tc (e + i) .low ≡ getD (octants (2 ^ (level - 1)) (cellAt tc n .low)) i origin
+    child-at : (i : ℕ) → i < 8 → cellAt tc (e + i) .low ≡ getD (octants (2 ^ (f .level - 1)) (cellAt tc n .low)) i origin
     child-at i h = ap (λ m. cellAt tc (m + i) .low) r ∙ parts .child-low i h ∙ ap (λ l. getD (octants (2 ^ l) (cellAt tc n .low)) i origin) half-is
 
-    child-level : (i : ℕ) → i < 8 → cellAt tc (e + i) .level ≡ level - 1
+    child-level : (i : ℕ) → i < 8 → cellAt tc (e + i) .level ≡ f .level - 1
     child-level i h = ap (λ m. cellAt tc (m + i) .level) r ∙ parts .child-level i h ∙ half-is
 
-    -- the child at the face's lowest corner
+    -- the child at the facet's lowest corner
     base : Place
-    base = cond (not upper) (move (axisOf axis) (2 ^ (level - 1)) (cellAt tc n .low)) (cellAt tc n .low)
+    base = cond (not (f .upper)) (move (axisOf (f .axis)) (2 ^ (f .level - 1)) (cellAt tc n .low)) (cellAt tc n .low)
 
-    base-is : placeWith key ≡ cond upper base (move (axisOf axis) (2 ^ (level - 1)) base)
+    base-is : placeWith (f .key) ≡ cond (f .upper) base (move (axisOf (f .axis)) (2 ^ (f .level - 1)) base)
     unfolding base
-    base-is = x .low-is ∙ go upper
+    base-is = x .low-is ∙ go (f .upper)
       where
-        go : (u : Bool) → cond u (cellAt tc n .low) (move (axisOf axis) (2 ^ level) (cellAt tc n .low))
-            ≡ cond u (cond (not u) (move (axisOf axis) (2 ^ (level - 1)) (cellAt tc n .low)) (cellAt tc n .low))
-            (move (axisOf axis) (2 ^ (level - 1)) (cond (not u) (move (axisOf axis) (2 ^ (level - 1)) (cellAt tc n .low)) (cellAt tc n .low)))
+        go : (u : Bool) → cond u (cellAt tc n .low) (move (axisOf (f .axis)) (2 ^ f .level) (cellAt tc n .low))
+            ≡ cond u (cond (not u) (move (axisOf (f .axis)) (2 ^ (f .level - 1)) (cellAt tc n .low)) (cellAt tc n .low))
+            (move (axisOf (f .axis)) (2 ^ (f .level - 1)) (cond (not u) (move (axisOf (f .axis)) (2 ^ (f .level - 1)) (cellAt tc n .low)) (cellAt tc n .low)))
         go true = refl
-        go false = ap (λ l. move (axisOf axis) (2 ^ l) (cellAt tc n .low)) less ∙ sym (move-move (axisOf axis) (level - 1) (cellAt tc n .low))
+        go false = ap (λ l. move (axisOf (f .axis)) (2 ^ l) (cellAt tc n .low)) less ∙ sym (move-move (axisOf (f .axis)) (f .level - 1) (cellAt tc n .low))
 
-    -- the child in place i is across the face at a key, if it is at the place that the face says
-    child-across : (i k : ℕ) (q : Place) → i < 8 → getD (octants (2 ^ (level - 1)) (cellAt tc n .low)) i origin ≡ q
-        → placeWith k ≡ cond upper q (move (axisOf axis) (2 ^ (level - 1)) q) → Across tc axis upper k (level - 1) (e + i)
-    child-across i k q h o p = record {
+    -- the child at quarter i lies across it
+    quarter-at : (i c : ℕ) → c ≡ childAcross f i → Across tc (quarterOf f i) (e + c)
+    unfolding base quarterOf
+    quarter-at i c ec = record {
       axis-less = x .axis-less;
-      inside = omega (arith, children-inside);
-      level-is = child-level i h;
-      low-is = subst (λ y. placeWith k ≡ cond upper y (move (axisOf axis) (2 ^ (level - 1)) y)) (sym (child-at i h ∙ o)) p;
+      inside = omega (arith, children-inside, few);
+      level-is = child-level c few;
+      low-is = quarter-place f room i ∙ ap (λ q. quarterLow (sideOf f) (2 ^ (f .level - 1)) q i) base-is
+          ∙ quarter-moved (f .axis) (f .upper) (2 ^ (f .level - 1)) base i
+          ∙ ap (λ q. cond (f .upper) q (move (axisOf (f .axis)) (2 ^ (f .level - 1)) q)) (sym low);
     }
-
-    four : Quarters (axisOf axis) (sideAt axis upper .right) (sideAt axis upper .up) (not upper) (2 ^ (level - 1)) (cellAt tc n .low)
-    four = quarters axis upper (not upper) (2 ^ (level - 1)) (cellAt tc n .low)
-
-    bits : (a : Axis) → (octantBit a ≡ 1) ⊎ ((octantBit a ≡ 2) ⊎ (octantBit a ≡ 4))
-    bits X = inl refl
-    bits Y = inr (inl refl)
-    bits Z = inr (inr refl)
-
-    eight : (m : ℕ) (u : Bool) → cond (not u) (octantBit (axisOf m)) 0 + octantBit (sideAt m u .right) + octantBit (sideAt m u .up) < 8
-    eight m true = on (axisOf m)
       where
-        on : (a : Axis) → 0 + octantBit (next a) + octantBit (next (next a)) < 8
-        on X = omega arith
-        on Y = omega arith
-        on Z = omega arith
-    eight m false = on (axisOf m)
-      where
-        on : (a : Axis) → octantBit a + octantBit (next (next a)) + octantBit (next a) < 8
-        on X = omega arith
-        on Y = omega arith
-        on Z = omega arith
+        few : c < 8
+        few = omega (arith, quarter-few (f .axis) (f .upper) (not (f .upper)) i)
 
-    side : Side
-    side = sideAt axis upper
+        low : cellAt tc (e + c) .low ≡ quarterLow (sideOf f) (2 ^ (f .level - 1)) base i
+        low = child-at c few ∙ ap (λ k. getD (octants (2 ^ (f .level - 1)) (cellAt tc n .low)) k origin) ec
+            ∙ quarter-octant (f .axis) (f .upper) (not (f .upper)) (2 ^ (f .level - 1)) (cellAt tc n .low) i
 
-    right-side : (q : Place) → move (side .right) (2 ^ (level - 1)) (move (axisOf axis) (2 ^ (level - 1)) q) ≡ move (axisOf axis) (2 ^ (level - 1)) (move (side .right) (2 ^ (level - 1)) q)
-    unfolding side
-    right-side q = subst (λ a. move (side .right) (2 ^ (level - 1)) (move a (2 ^ (level - 1)) q) ≡ move a (2 ^ (level - 1)) (move (side .right) (2 ^ (level - 1)) q))
-        (across-is axis upper) (side-axes axis upper .right-along (2 ^ (level - 1)) (2 ^ (level - 1)) q)
+    pub quarter-across : (i c : ℕ) (q : Facet) → q ≡ quarterOf f i → c ≡ childAcross f i → Across tc q (e + c)
+    quarter-across i c q eq ec = subst (λ (h : Facet). Across tc h (e + c)) (sym eq) (quarter-at i c ec)
 
-    up-side : (q : Place) → move (side .up) (2 ^ (level - 1)) (move (axisOf axis) (2 ^ (level - 1)) q) ≡ move (axisOf axis) (2 ^ (level - 1)) (move (side .up) (2 ^ (level - 1)) q)
-    unfolding side
-    up-side q = subst (λ a. move (side .up) (2 ^ (level - 1)) (move a (2 ^ (level - 1)) q) ≡ move a (2 ^ (level - 1)) (move (side .up) (2 ^ (level - 1)) q))
-        (across-is axis upper) (side-axes axis upper .up-along (2 ^ (level - 1)) (2 ^ (level - 1)) q)
-
-    module _ (b : ℕ) (eb : b ≡ sideBit axis (not upper)) where
-      pub near-across : Across tc axis upper key (level - 1) (e + b)
-      unfolding base
-      near-across = child-across b key base (omega (arith, eight axis upper)) (ap (λ i. getD (octants (2 ^ (level - 1)) (cellAt tc n .low)) i origin) eb ∙ four .near) base-is
-
-      module _ (m c : ℕ) (em : axisOf m ≡ sideAt axis upper .right) (ec : c ≡ octantBit (axisOf m)) where
-        c-is : c ≡ octantBit (sideAt axis upper .right)
-        c-is = ec ∙ ap octantBit em
-
-        pub beside-across : (k : ℕ) → placeWith k ≡ move (axisOf m) (2 ^ (level - 1)) (placeWith key) → Across tc axis upper k (level - 1) (e + b + c)
-        unfolding base side
-        beside-across k p =
-            subst (Across tc axis upper k (level - 1)) (let h : e + (b + c) ≡ e + b + c = omega arith in h)
-            (child-across (b + c) k (move (side .right) (2 ^ (level - 1)) base) (omega (arith, eight axis upper, c-is))
-            (ap (λ i. getD (octants (2 ^ (level - 1)) (cellAt tc n .low)) i origin) (ap (λ i. i + c) eb ∙ ap (λ i. sideBit axis (not upper) + i) c-is) ∙ four .beside)
-            (p ∙ ap (λ a. move a (2 ^ (level - 1)) (placeWith key)) em ∙ along-side axis upper (2 ^ (level - 1)) (side .right) (placeWith key) base right-side base-is))
-
-        module _ (o h : ℕ) (eo : axisOf o ≡ sideAt axis upper .up) (eh : h ≡ octantBit (axisOf o)) where
-          h-is : h ≡ octantBit (sideAt axis upper .up)
-          h-is = eh ∙ ap octantBit eo
-
-          pub above-across : (k : ℕ) → placeWith k ≡ move (axisOf o) (2 ^ (level - 1)) (placeWith key) → Across tc axis upper k (level - 1) (e + b + h)
-          unfolding base side
-          above-across k p =
-              subst (Across tc axis upper k (level - 1)) (let q : e + (b + h) ≡ e + b + h = omega arith in q)
-              (child-across (b + h) k (move (side .up) (2 ^ (level - 1)) base) (omega (arith, eight axis upper, h-is))
-              (ap (λ i. getD (octants (2 ^ (level - 1)) (cellAt tc n .low)) i origin) (ap (λ i. i + h) eb ∙ ap (λ i. sideBit axis (not upper) + i) h-is) ∙ four .above)
-              (p ∙ ap (λ a. move a (2 ^ (level - 1)) (placeWith key)) eo ∙ along-side axis upper (2 ^ (level - 1)) (side .up) (placeWith key) base up-side base-is))
-
-          pub far-across : (k f : ℕ) → placeWith k ≡ move (axisOf o) (2 ^ (level - 1)) (placeWith key)
-              → placeWith f ≡ move (axisOf m) (2 ^ (level - 1)) (placeWith k) → Across tc axis upper f (level - 1) (e + b + c + h)
-          unfolding base side
-          far-across k f p q =
-              let up-is : placeWith k ≡ cond upper (move (side .up) (2 ^ (level - 1)) base) (move (axisOf axis) (2 ^ (level - 1)) (move (side .up) (2 ^ (level - 1)) base)) =
-              p ∙ ap (λ a. move a (2 ^ (level - 1)) (placeWith key)) eo ∙ along-side axis upper (2 ^ (level - 1)) (side .up) (placeWith key) base up-side base-is in
-              subst (Across tc axis upper f (level - 1)) (let y : e + (b + c + h) ≡ e + b + c + h = omega arith in y)
-              (child-across (b + c + h) f (move (side .right) (2 ^ (level - 1)) (move (side .up) (2 ^ (level - 1)) base)) (omega (arith, eight axis upper, h-is, c-is))
-              (ap (λ i. getD (octants (2 ^ (level - 1)) (cellAt tc n .low)) i origin)
-              (ap (λ i. i + c + h) eb ∙ ap (λ i. sideBit axis (not upper) + i + h) c-is ∙ ap (λ i. sideBit axis (not upper) + octantBit (side .right) + i) h-is) ∙ four .beyond)
-              (q ∙ ap (λ a. move a (2 ^ (level - 1)) (placeWith k)) em ∙ along-side axis upper (2 ^ (level - 1)) (side .right) (placeWith k) (move (side .up) (2 ^ (level - 1)) base) right-side up-is))
-
-    -- the steps in the four quarters, one after the other
-    pub quarters-recorded : (m o kr ku kf : ℕ) (t u v w y : Trace) → axisOf m ≡ sideAt axis upper .right → axisOf o ≡ sideAt axis upper .up
-        → placeWith kr ≡ move (axisOf m) (2 ^ (level - 1)) (placeWith key) → placeWith ku ≡ move (axisOf o) (2 ^ (level - 1)) (placeWith key)
-        → placeWith kf ≡ move (axisOf m) (2 ^ (level - 1)) (placeWith ku)
-        → let steps : ℕ → List Step = λ k. smallSteps (surveyOf tc tk clearance) (sideAt axis upper) (placeWith k) (level - 1) in
-        Recorded (steps key) t u → Recorded (steps kr) u v → Recorded (steps ku) v w → Recorded (steps kf) w y
-        → Recorded (smallSteps (surveyOf tc tk clearance) (sideAt axis upper) (placeWith key) level) t y
-    unfolding surveyOf
-    quarters-recorded m o kr ku kf t u v w y em eo er eu ef a b c d =
+    -- the steps in the four quarters
+    pub quarters-recorded : (t u : Trace) → Recorded (firsts (λ i. facetSteps (surveyOf tc tk clearance) (quarterOf f i)) 4) t u
+        → Recorded (facetSteps (surveyOf tc tk clearance) f) t u
+    unfolding surveyOf quarterOf
+    quarters-recorded t u h =
         let sv = surveyOf tc tk clearance in
-        let sd = sideAt axis upper in
-        let p = placeWith key in
-        let l = level - 1 in
-        let steps : Place → List Step = λ q. smallSteps sv sd q l in
-        let qr : placeWith kr ≡ move (sd .right) (2 ^ l) p = er ∙ ap (λ z. move z (2 ^ l) p) em in
-        let qu : placeWith ku ≡ move (sd .up) (2 ^ l) p = eu ∙ ap (λ z. move z (2 ^ l) p) eo in
-        let qf : placeWith kf ≡ move (sd .right) (2 ^ l) (move (sd .up) (2 ^ l) p) = ef ∙ ap (λ z. move z (2 ^ l) (placeWith ku)) em ∙ ap (move (sd .right) (2 ^ l)) qu in
-        let b′ : Recorded (steps (move (sd .right) (2 ^ l) p)) u v = subst (λ q. Recorded (steps q) u v) qr b in
-        let c′ : Recorded (steps (move (sd .up) (2 ^ l) p)) v w = subst (λ q. Recorded (steps q) v w) qu c in
-        let d′ : Recorded (steps (move (sd .right) (2 ^ l) (move (sd .up) (2 ^ l) p))) w y = subst (λ q. Recorded (steps q) w y) qf d in
-        let any-split : any (splitAcross sd p (suc l)) (cellsOf tc) ≡ true =
-        ap (λ z. any (splitAcross sd p z) (cellsOf tc)) (sym less) ∙ split-here ∙ ap not (ne-eqb (entry tc n) 0 (λ q. s (r ∙ q))) in
-        subst (λ z. Recorded (smallSteps sv sd p z) t y) (sym less)
-        (subst (λ ss. Recorded ss t y) (split-steps sv sd p l any-split)
-        (recorded-more (steps p ++ steps (move (sd .right) (2 ^ l) p) ++ steps (move (sd .up) (2 ^ l) p)) (steps (move (sd .right) (2 ^ l) (move (sd .up) (2 ^ l) p))) t w y
-        (recorded-more (steps p ++ steps (move (sd .right) (2 ^ l) p)) (steps (move (sd .up) (2 ^ l) p)) t v w
-        (recorded-more (steps p) (steps (move (sd .right) (2 ^ l) p)) t u v a b′) c′) d′))
+        let p = placeWith (f .key) in
+        let l = f .level - 1 in
+        let steps : Place → List Step = λ q. smallSteps sv (sideOf f) q l in
+        let at : (i : ℕ) → placeWith (quarterOf f i .key) ≡ quarterLow (sideOf f) (2 ^ l) p i = quarter-place f room in
+        let split : any (splitAcross (sideOf f) p (suc l)) (cellsOf tc) ≡ true =
+        ap (λ z. any (splitAcross (sideOf f) p z) (cellsOf tc)) (sym less) ∙ split-here ∙ ap not (ne-eqb (entry tc n) 0 (λ q. s (r ∙ q))) in
+        let placed : firsts (λ i. steps (placeWith (quarterOf f i .key))) 4 ≡ firsts (λ i. steps (quarterLow (sideOf f) (2 ^ l) p i)) 4 =
+        λ j. firsts (λ i. steps (at i j)) 4 in
+        subst (λ ss. Recorded ss t u) (placed ∙ split-steps sv (sideOf f) p l split ∙ ap (smallSteps sv (sideOf f) p) (sym less)) h

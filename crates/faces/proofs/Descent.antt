@@ -66,7 +66,8 @@ module _ (t : List ℕ) (g : Grown t) where
       let c = cellAt t n in
       let few = cell-count t (g .entries-right) in
       let r = position-of (isAt (c .level) (c .low)) box (cellsOf t) 0 (cell-is n h) in
-      one-place (isAt (c .level) (c .low)) box (cellsOf t) n (r .0) (tree .once (c .level) (c .low)) (omega arith) (r .2) (is-at c) (r .3) ∙ sym (r .1 ∙ (omega arith))
+      one-place (isAt (c .level) (c .low)) box (cellsOf t) n (r .0) (tree .once (c .level) (c .low)) (omega arith) (r .2) (is-at c) (r .3)
+      ∙ sym (r .1 ∙ (omega arith))
 
   -- a cell is split just if its record is
   pub split-is : (n : ℕ) → n < length t / 4 → isSplit (cellsOf t) (cellAt t n .level) (cellAt t n .low) ≡ not (eqb (entry t n) 0)
@@ -107,7 +108,12 @@ module _ (t : List ℕ) (g : Grown t) where
 -- ---- one step down
 
 octant-at : (s : ℕ) (q : Place) (a b c : Bool)
-    → getD (octants s q) (bit a + 2 * bit b + 4 * bit c) origin ≡ record { x = cond a (q .x + s) (q .x); y = cond b (q .y + s) (q .y); z = cond c (q .z + s) (q .z) }
+    → getD (octants s q) (bit a + 2 * bit b + 4 * bit c) origin ≡ record {
+      x = cond a (q .x + s) (q .x);
+      y = cond b (q .y + s) (q .y);
+      z = cond c (q .z + s)
+          (q .z);
+    }
 octant-at s q false false false = refl
 octant-at s q true false false = refl
 octant-at s q false true false = refl
@@ -233,6 +239,7 @@ module _ (t : List ℕ) (g : Grown t) (p : Place) where
     misses f = none t g at p (λ c.
         let l = d .level-is in
         let c′ : T (isCell (cellsOf t) (cellAt t n .level) p) = subst (λ m. T (isCell (cellsOf t) m p)) (sym l) c in
-        let e = one-cube (cellAt t n .level) (cellAt t n .low) p p (cell-aligned (cellsOf t) (tree t g) (cellAt t n .level) (cellAt t n .low) (cell-is t g n (d .inside)))
+        let e = one-cube (cellAt t n .level) (cellAt t n .low) p p (cell-aligned (cellsOf t) (tree t g) (cellAt t n .level) (cellAt t n .low)
+        (cell-is t g n (d .inside)))
         (cell-aligned (cellsOf t) (tree t g) (cellAt t n .level) p c′) held (λ a. (omega arith, omega (arith, pow-pos (cellAt t n .level)))) in
         f (omega (arith, d .x-is, d .y-is, d .z-is, ap (along X) e, ap (along Y) e, ap (along Z) e)))

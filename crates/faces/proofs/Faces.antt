@@ -31,7 +31,8 @@ pub record Axes (s : Side) : Type 0 where
   pub up-along : (d e : ℕ) (p : Place) → move (s .up) d (move (s .across) e p) ≡ move (s .across) e (move (s .up) d p)
   pub turned : (d e : ℕ) (p : Place) → move (s .right) d (move (s .up) e p) ≡ move (s .up) e (move (s .right) d p)
 
-axes-of : (a : Axis) (u : Bool) → Axes (cond u (record { across = a; upper = true; right = next a; up = next (next a) }) (record { across = a; upper = false; right = next (next a); up = next a }))
+axes-of : (a : Axis) (u : Bool) → Axes (cond u (record { across = a; upper = true; right = next a; up = next (next a) })
+    (record { across = a; upper = false; right = next (next a); up = next a }))
 axes-of X true = record {
   right-across = λ v p. refl;
   up-across = λ v p. refl;

@@ -8,34 +8,27 @@ use native.Mathlib.Omega.{arith}
 use lib.Dec.{T, eqb}
 use borrow.Author.Tests.{eqb-true, eqb-false, not-true, not-false}
 use Rattle.base.proofs.Tests.{below}
-use Rattle.base.specs.Grid.{Place, Axis, X, Y, Z, axisOf, next, along, put, move, back}
+use lib.ListN.{getD}
+use Rattle.base.specs.Grid.{Place, origin, Axis, X, Y, Z, axisOf, next, along, put, move, back, octants}
+use Rattle.base.proofs.Lists.{in-get}
+use Rattle.base.proofs.Octants.{octant→}
 use Rattle.base.proofs.Places.{every-axis}
 use Rattle.records.specs.Keys.{keyOf}
 use Rattle.cells.specs.Laid.{octantKey}
-use Rattle.cells.proofs.Octants.{octant-key-le, size-fits}
+use Rattle.cells.proofs.Octants.{octant-key-is, octant-key-le, size-fits}
+use Rattle.cells.proofs.Laying.{key-small}
 use Rattle.edges.specs.Noting.{keyUnit}
 use Rattle.rules.specs.Survey.{Cell}
 use Rattle.rules.specs.Steps.{Side, Face, face, faceEdge}
 use Rattle.octree.proofs.Lawful.{Octree}
 use Rattle.octree.proofs.Aligned.{cell-in-box, corner-place}
 use Rattle.faces.specs.Descent.{placeWith, Outside}
-use Rattle.faces.specs.Faces.{sideAt, octantBit, SideOf, Room}
+use Rattle.faces.specs.Faces.{sideAt, sideOf, octantBit, SideOf, Room}
+use Rattle.faces.specs.declared.Facet.{Facet}
 use Rattle.faces.proofs.Faces.{Axes, side-axes, corner-of, same-right, same-up}
 
 low-part : (y z : ℕ) → y < 65536 → (y + 65536 * z) % 65536 ≡ y
 low-part y z h = omega arith
-
-high-part : (m d : ℕ) → (m + 65536 * d) % 65536 ≡ m % 65536
-high-part m d = omega arith
-
-highest : (k : ℕ) → k / 4294967296 ≡ k / 65536 / 65536
-highest k = omega arith
-
-high-same : (m d : ℕ) → m % 65536 + d < 65536 → (m + d) / 65536 ≡ m / 65536
-high-same m d h = omega arith
-
-low-more : (m d : ℕ) → m % 65536 + d < 65536 → (m + d) % 65536 ≡ m % 65536 + d
-low-more m d h = omega arith
 
 pub key-of-place : (k : ℕ) → keyOf (placeWith k) ≡ k
 unfolding keyOf placeWith
@@ -56,33 +49,32 @@ octant-unit X s = omega arith
 octant-unit Y s = omega arith
 octant-unit Z s = omega arith
 
-pub place-moved : (a : Axis) (k d : ℕ) → along a (placeWith k) + d < 65536 → placeWith (k + d * keyUnit a) ≡ move a d (placeWith k)
-unfolding placeWith
-place-moved X k d h =
-    let a : (k + d * 1) % 65536 ≡ k % 65536 + d = omega arith in
-    let q : (k + d * 1) / 65536 ≡ k / 65536 = omega arith in
-    let b : (k + d * 1) / 65536 % 65536 ≡ k / 65536 % 65536 = ap (λ n. n % 65536) q in
-    let c : (k + d * 1) / 4294967296 ≡ k / 4294967296 = omega arith in
-    λ i. record { x = a i; y = b i; z = c i }
-place-moved Y k d h =
-    let a : (k + d * 65536) % 65536 ≡ k % 65536 = omega arith in
-    let q : (k + d * 65536) / 65536 ≡ k / 65536 + d = omega arith in
-    let b : (k + d * 65536) / 65536 % 65536 ≡ k / 65536 % 65536 + d = ap (λ n. n % 65536) q ∙ low-more (k / 65536) d h in
-    let c : (k + d * 65536) / 4294967296 ≡ k / 4294967296 =
-    highest (k + d * 65536) ∙ ap (λ n. n / 65536) q ∙ high-same (k / 65536) d h ∙ sym (highest k) in
-    λ i. record { x = a i; y = b i; z = c i }
-place-moved Z k d h =
-    let a : (k + d * 4294967296) % 65536 ≡ k % 65536 = omega arith in
-    let q : (k + d * 4294967296) / 65536 ≡ k / 65536 + 65536 * d = omega arith in
-    let r : (k / 65536 + 65536 * d) % 65536 ≡ k / 65536 % 65536 = high-part (k / 65536) d in
-    let b : (k + d * 4294967296) / 65536 % 65536 ≡ k / 65536 % 65536 = ap (λ n. n % 65536) q ∙ r in
-    let c : (k + d * 4294967296) / 4294967296 ≡ k / 4294967296 + d = omega arith in
-    λ i. record { x = a i; y = b i; z = c i }
+-- ---- the corners of a cube by key
 
--- a place in the box, its upper sides put in, has a small key
-pub key-small : (k : ℕ) → ((a : Axis) → along a (placeWith k) ≤ 1024) → k < 4406636445696
-unfolding placeWith
-key-small k h = omega (arith, h Z)
+module _ (key s i : ℕ) (boxed : (a : Axis) → along a (placeWith key) ≤ 1024) (short : s ≤ 1024) (few : i < 8) where
+  octant : Place
+  octant = getD (octants s (placeWith key)) i origin
+
+  pub octant-near : (a : Axis) → (along a (getD (octants s (placeWith key)) i origin) ≡ along a (placeWith key))
+      ⊎ (along a (getD (octants s (placeWith key)) i origin) ≡ along a (placeWith key) + s)
+  octant-near = octant→ s (placeWith key) (getD (octants s (placeWith key)) i origin) (in-get (octants s (placeWith key)) i origin few)
+
+  pub octant-small : (a : Axis) → along a (getD (octants s (placeWith key)) i origin) ≤ 2048
+  octant-small a = go (octant-near a)
+    where
+      go : (along a (getD (octants s (placeWith key)) i origin) ≡ along a (placeWith key))
+          ⊎ (along a (getD (octants s (placeWith key)) i origin) ≡ along a (placeWith key) + s) → along a (getD (octants s (placeWith key)) i origin) ≤ 2048
+      go (inl e) = omega (arith, boxed a)
+      go (inr e) = omega (arith, boxed a)
+
+  pub octant-place : placeWith (key + octantKey i s) ≡ getD (octants s (placeWith key)) i origin
+  unfolding octant
+  octant-place =
+      ap placeWith (ap (λ k. k + octantKey i s) (sym (key-of-place key)) ∙ sym (octant-key-is s (placeWith key) origin i few))
+      ∙ place-of-key octant (omega (arith, octant-small X)) (omega (arith, octant-small Y))
+
+  pub octant-fits : key + octantKey i s < 18446744073709551616
+  octant-fits = omega (arith, key-small (placeWith key) boxed, key-of-place key, octant-key-le i s few short)
 
 -- outside the box
 pub outside-test : (k : ℕ) → Outside k (not (eqb (k % 65536 / 1024 + k / 65536 % 65536 / 1024 + k / 4398046511104) 0))
@@ -118,16 +110,32 @@ last-bit zero f g = absurd (f refl)
 last-bit (suc zero) f g = absurd (g refl)
 last-bit (suc (suc n)) f g = (refl, omega arith)
 
-pub moved-less : (k l o s r : ℕ) → (l ≤ 10) × ((a : Axis) → along a (placeWith k) ≤ 1024) → o ≤ 4 → s ≡ 2 ^ l → r ≡ octantKey o s → k + r < 18446744073709551616
-moved-less k l o s r h b e f =
-    let g = size-fits l (h .0) in
-    omega (arith, key-small k (h .1), octant-key-le o s (omega arith) (omega arith))
+pub key-ready : (level o s : ℕ) → level ≤ 10 → o ≤ 4 → s ≡ 2 ^ level → (o < 8) × (s ≤ 1024)
+key-ready level o s l h e = (omega arith, omega (arith, size-fits level l))
 
-pub moved-key : (k n l o s r : ℕ) → along (axisOf n) (placeWith k) + 2 ^ l ≤ 1024 → o ≡ octantBit (axisOf n) → s ≡ 2 ^ l → r ≡ octantKey o s
-    → placeWith (k + r) ≡ move (axisOf n) (2 ^ l) (placeWith k)
-moved-key k n l o s r h e f g =
-    ap (λ d. placeWith (k + d)) (g ∙ ap (λ b. octantKey b s) e ∙ ap (octantKey (octantBit (axisOf n))) f ∙ octant-unit (axisOf n) (2 ^ l))
-    ∙ place-moved (axisOf n) k (2 ^ l) (omega arith)
+pub bit-few : (a : Axis) → octantBit a < 8
+bit-few X = omega arith
+bit-few Y = omega arith
+bit-few Z = omega arith
+
+on-axis : (a : Axis) (s : ℕ) (p : Place) → getD (octants s p) (octantBit a) origin ≡ move a s p
+on-axis X s p = refl
+on-axis Y s p = refl
+on-axis Z s p = refl
+
+module _ (k n l o s r : ℕ) (h : (l ≤ 10) × ((a : Axis) → along a (placeWith k) ≤ 1024)) (eo : o ≡ octantBit (axisOf n)) (es : s ≡ 2 ^ l)
+    (er : r ≡ octantKey o s) where
+  r-is : r ≡ octantKey (octantBit (axisOf n)) (2 ^ l)
+  r-is = er ∙ ap (λ b. octantKey b s) eo ∙ ap (octantKey (octantBit (axisOf n))) es
+
+  pub moved-less : k + r < 18446744073709551616
+  moved-less = omega (arith, r-is, octant-fits k (2 ^ l) (octantBit (axisOf n)) (h .1) (size-fits l (h .0)) (bit-few (axisOf n)))
+
+  pub moved-key : placeWith (k + r) ≡ move (axisOf n) (2 ^ l) (placeWith k)
+  moved-key =
+      ap (λ d. placeWith (k + d)) r-is
+      ∙ octant-place k (2 ^ l) (octantBit (axisOf n)) (h .1) (size-fits l (h .0)) (bit-few (axisOf n))
+      ∙ on-axis (axisOf n) (2 ^ l) (placeWith k)
 
 -- ---- right and up
 
@@ -192,22 +200,22 @@ module _ (s : Side) (p : Place) (l : ℕ) where
 
 -- ---- the room of a face
 
-module _ (cells : List Cell) (tree : Octree cells) (n : ℕ) (u : Bool) (l k : ℕ) (few : n < 3) where
-  -- a face that is a side of a cell is in the box
-  pub side-room : SideOf cells (sideAt n u .across) l (placeWith k) → Room n u k l
-  side-room (q, c, h) = record {
-    axis-less = few;
-    level-less = tree .shallow l q c;
-    boxed = λ a. corner-place cells tree l q p c (corner-of s x l p q h 0) a .1;
-    right-room = omega (arith, cell-in-box cells tree l q c (s .right), same-right s x l p q h);
-    up-room = omega (arith, cell-in-box cells tree l q c (s .up), same-up s x l p q h);
-  }
-    where
-      s : Side
-      s = sideAt n u
+-- a facet that is a side of a cell is in the box
+pub side-room : (cells : List Cell) → Octree cells → (f : Facet) → f .axis < 3
+    → SideOf cells (sideOf f .across) (f .level) (placeWith (f .key)) → Room f
+side-room cells tree f few (q, c, h) = record {
+  axis-less = few;
+  level-less = tree .shallow (f .level) q c;
+  boxed = λ a. corner-place cells tree (f .level) q p c (corner-of s x (f .level) p q h 0) a .1;
+  right-room = omega (arith, cell-in-box cells tree (f .level) q c (s .right), same-right s x (f .level) p q h);
+  up-room = omega (arith, cell-in-box cells tree (f .level) q c (s .up), same-up s x (f .level) p q h);
+}
+  where
+    s : Side
+    s = sideOf f
 
-      x : Axes s
-      x = side-axes n u
+    x : Axes s
+    x = side-axes (f .axis) (f .upper)
 
-      p : Place
-      p = placeWith k
+    p : Place
+    p = placeWith (f .key)

@@ -3,18 +3,16 @@ use Prim.Native.Nat.{ℕ, zero, suc, _+_, _-_, _*_, _/_, _^_, _≤_, _<_}
 use mathlib.Core.Path.{_≡_, refl, sym, ap, _∙_, subst}
 use mathlib.Core.Logic.{_⊎_, inl, inr}
 use mathlib.Core.Bool.{Bool, true, false, not, _&&_, cond}
-use mathlib.Core.List.{List, [], _∷_, _++_, map, append-nil}
+use mathlib.Core.List.{List, [], _∷_, _++_, map, append-assoc, append-nil}
 use native.Mathlib.Omega.{arith}
 use lib.Dec.{T, eqb, ltb}
 use lib.ListN.{length, getD}
 use lib.Ieee.{Float}
 use Rattle.base.specs.Lists.{any, bit, collect}
 use Rattle.base.specs.Grid.{Place, origin, Axis, X, Y, Z, axisOf, along, move, back, same, octants}
-use Rattle.base.proofs.Lists.{in-get}
-use Rattle.base.proofs.Octants.{octant→}
 use Rattle.rules.specs.Survey.{Cell, cell, cellsOf, cornersOf, cornerRecord, cornerAt, leafOf, wet, wetAt, Survey}
 use Rattle.rules.specs.Steps.{Side, upperSide, lowerSide, sides, Step, face, sideLow, splitAcross, smallFaces, faceSteps, leafSteps}
-use Rattle.rules.specs.Outputs.{rising, surveyOf}
+use Rattle.rules.specs.Outputs.{rising, accepted, surveyOf}
 use Rattle.rules.specs.declared.Corner.{Corner}
 use Rattle.rules.specs.declared.Leaf.{Leaf}
 use Rattle.octree.proofs.Lawful.{isCell, CornerOf}
@@ -25,27 +23,26 @@ use Rattle.edges.specs.Tables.{placeAt}
 use Rattle.edges.proofs.Find.{found, one-record}
 use Rattle.octree.proofs.Aligned.{cell-in-box}
 use Rattle.cells.specs.Laid.{octantKey, cellAt, Laid}
-use Rattle.cells.proofs.Octants.{size-fits, octant-key-is, octant-key-le}
+use Rattle.cells.proofs.Octants.{size-fits}
 use Rattle.edges.specs.Noting.{keyUnit}
 use Rattle.trace.specs.Trace.{Trace, Recorded}
-use Rattle.trace.proofs.Laws.{recorded-more}
 use Rattle.faces.specs.Descent.{placeWith, Grown}
-use Rattle.faces.specs.Faces.{sideAt, sideBit, octantBit, LeafAt, Faced, FoundAcross, Listed, ownPattern, cornerMarks, sideSteps, smallSteps}
-use Rattle.faces.proofs.Keys.{octant-unit, key-of-place, place-of-key, key-small}
+use Rattle.faces.specs.Faces.{sideAt, facet, sideNumber, sideBit, octantBit, LeafAt, Faced, FoundAcross, Listed, ownPattern, cornerMarks, facetSteps}
+use Rattle.faces.specs.Faces.{sideSteps, smallSteps}
+use Rattle.faces.proofs.Keys.{octant-unit, place-of-key, octant-near, octant-small, octant-place, octant-fits}
+use Rattle.faces.proofs.Firsts.{firsts}
+use Rattle.faces.proofs.Looks.{grown, corners-rise, listed}
 use Rattle.faces.proofs.Descent.{tree, cell-is}
-use Rattle.faces.proofs.Across.{whole-steps}
-use Rattle.faces.proofs.Own.{lower-room, key-covers, place-back, own-less}
+use Rattle.faces.proofs.Across.{whole-steps, eight}
+use Rattle.faces.proofs.Own.{lower-room, key-covers, place-back}
 
 pub leaf-room : (tc : List ℕ) → Grown tc → (key level : ℕ) → LeafAt tc key level → (level ≤ 10) × ((a : Axis) → along a (placeWith key) + 2 ^ level ≤ 1024)
 leaf-room tc g key level h =
     (tree tc g .shallow level (placeWith key) (h .is-cell), cell-in-box (cellsOf tc) (tree tc g) level (placeWith key) (h .is-cell))
 
-pub moved-ready : (n key level : ℕ) → level ≤ 10 → ((a : Axis) → along a (placeWith key) + 2 ^ level ≤ 1024)
-    → ((level ≤ 10) × ((a : Axis) → along a (placeWith key) ≤ 1024)) × (along (axisOf n) (placeWith key) + 2 ^ level ≤ 1024)
-moved-ready n key level l h = ((l, (λ a. omega (arith, h a))), h (axisOf n))
-
-pub key-ready : (level o s : ℕ) → level ≤ 10 → o ≤ 4 → s ≡ 2 ^ level → (o < 8) × (s ≤ 1024)
-key-ready level o s l h e = (omega arith, omega (arith, size-fits level l))
+pub moved-ready : (key level : ℕ) → level ≤ 10 → ((a : Axis) → along a (placeWith key) + 2 ^ level ≤ 1024)
+    → (level ≤ 10) × ((a : Axis) → along a (placeWith key) ≤ 1024)
+moved-ready key level l h = (l, (λ a. omega (arith, h a)))
 
 pub across-upper : (n : ℕ) (u : Bool) (key level : ℕ) (q : Place) → u ≡ true → q ≡ move (axisOf n) (2 ^ level) (placeWith key)
     → q ≡ cond u (move (axisOf n) (2 ^ level) (placeWith key)) (back (axisOf n) (2 ^ level) (placeWith key))
@@ -69,10 +66,14 @@ module _ (n : ℕ) (u : Bool) (key level o s r : ℕ) (e : u ≡ false) (h : (no
 
 -- ---- the steps on a side
 
+-- sides by number
+pub side-less : (i : ℕ) → i < 6 → i / 2 < 3
+side-less i h = omega arith
+
 module _ (tc tk : List ℕ) (clearance : Float) (axis : ℕ) (upper : Bool) (key level side : ℕ)
     (at : placeWith side ≡ sideLow (sideAt axis upper) (cell (placeWith key) level false)) where
   -- the side is a side of the leaf
-  pub own-faced : axis < 3 → LeafAt tc key level → Faced tc axis side level
+  pub own-faced : axis < 3 → LeafAt tc key level → Faced tc (facet axis upper side level)
   own-faced h l = record { axis-less = h; side = (placeWith key, l .is-cell, go upper at) }
     where
       go : (u : Bool) → placeWith side ≡ sideLow (sideAt axis u) (cell (placeWith key) level false)
@@ -81,7 +82,7 @@ module _ (tc tk : List ℕ) (clearance : Float) (axis : ℕ) (upper : Bool) (key
       go false e = inl e
 
   -- the small faces of the cell across
-  pub split-recorded : (t u : Trace) → Recorded (smallSteps (surveyOf tc tk clearance) (sideAt axis upper) (placeWith side) level) t u
+  pub split-recorded : (t u : Trace) → Recorded (facetSteps (surveyOf tc tk clearance) (facet axis upper side level)) t u
       → Recorded (sideSteps (surveyOf tc tk clearance) (sideAt axis upper) (placeWith key) level) t u
   split-recorded t u r = subst (λ p. Recorded (smallSteps (surveyOf tc tk clearance) (sideAt axis upper) p level) t u) at r
 
@@ -107,7 +108,7 @@ module _ (n : ℕ) (u : Bool) (low m c o h : ℕ) (el : low ≡ sideBit n u) (em
   h-is = eh ∙ ap octantBit eo
 
   pub own-octants : low + c + h < 8
-  own-octants = omega (arith, own-less n u, c-is, h-is)
+  own-octants = omega (arith, eight n u u, c-is, h-is)
 
   pub own-sum : (wet : List ℕ) (a b d e : ℕ) → a ≡ bit (eqb (getD wet low 0) 1) → b ≡ bit (eqb (getD wet (low + c) 0) 1)
       → d ≡ bit (eqb (getD wet (low + c + h) 0) 1) → e ≡ bit (eqb (getD wet (low + h) 0) 1)
@@ -118,54 +119,51 @@ module _ (n : ℕ) (u : Bool) (low m c o h : ℕ) (el : low ≡ sideBit n u) (em
       let fa : a ≡ mark (sideBit n u) = ea ∙ ap mark el in
       let fb : b ≡ mark (sideBit n u + octantBit (sideAt n u .right)) = eb ∙ ap (λ i. mark (i + c)) el ∙ ap (λ i. mark (sideBit n u + i)) c-is in
       let fd : d ≡ mark (sideBit n u + octantBit (sideAt n u .right) + octantBit (sideAt n u .up)) =
-      ed ∙ ap (λ i. mark (i + c + h)) el ∙ ap (λ i. mark (sideBit n u + i + h)) c-is ∙ ap (λ i. mark (sideBit n u + octantBit (sideAt n u .right) + i)) h-is in
+      ed ∙ ap (λ i. mark (i + c + h)) el ∙ ap (λ i. mark (sideBit n u + i + h)) c-is
+      ∙ ap (λ i. mark (sideBit n u + octantBit (sideAt n u .right) + i)) h-is in
       let fe : e ≡ mark (sideBit n u + octantBit (sideAt n u .up)) = ee ∙ ap (λ i. mark (i + h)) el ∙ ap (λ i. mark (sideBit n u + i)) h-is in
       ((λ i. fa i + 2 * fb i + 4 * fd i + 8 * fe i), omega arith)
 
 -- ---- taking up a leaf
 
-module _ (key level : ℕ) (room : (a : Axis) → along a (placeWith key) + 2 ^ level ≤ 1024) (i : ℕ) (few : i < 8) where
-  octant : Place
-  octant = getD (octants (2 ^ level) (placeWith key)) i origin
+module _ (key level i : ℕ) (few : i < 8) (deep : level ≤ 10) (room : (a : Axis) → along a (placeWith key) + 2 ^ level ≤ 1024) where
+  boxed : (a : Axis) → along a (placeWith key) ≤ 1024
+  boxed a = omega (arith, room a)
 
-  near : (a : Axis) → (along a octant ≡ along a (placeWith key)) ⊎ (along a octant ≡ along a (placeWith key) + 2 ^ level)
-  unfolding octant
-  near = octant→ (2 ^ level) (placeWith key) octant (in-get (octants (2 ^ level) (placeWith key)) i origin few)
+  small : (a : Axis) → along a (getD (octants (2 ^ level) (placeWith key)) i origin) ≤ 2048
+  small = octant-small key (2 ^ level) i boxed (size-fits level deep) few
 
-  small : (a : Axis) → along a octant ≤ 1024
-  small a = go (near a)
-    where
-      go : (along a octant ≡ along a (placeWith key)) ⊎ (along a octant ≡ along a (placeWith key) + 2 ^ level) → along a octant ≤ 1024
-      go (inl e) = omega (arith, room a)
-      go (inr e) = omega (arith, room a)
+  module _ (s r : ℕ) (es : s ≡ 2 ^ level) (er : r ≡ octantKey i s) where
+    pub corner-fits : key + r < 18446744073709551616
+    corner-fits = rw (er, es) (octant-fits key (2 ^ level) i boxed (size-fits level deep) few)
 
-  pub octant-place : (s r : ℕ) → s ≡ 2 ^ level → r ≡ octantKey i s → placeWith (key + r) ≡ getD (octants (2 ^ level) (placeWith key)) i origin
-  unfolding octant
-  octant-place s r es er =
-      ap placeWith (ap (λ d. key + d) (er ∙ ap (octantKey i) es) ∙ ap (λ k. k + octantKey i (2 ^ level)) (sym (key-of-place key))
-      ∙ sym (octant-key-is (2 ^ level) (placeWith key) origin i few))
-      ∙ place-of-key octant (omega (arith, small X)) (omega (arith, small Y))
+    pub corner-place : placeWith (key + r) ≡ getD (octants (2 ^ level) (placeWith key)) i origin
+    corner-place = rw (er, es) (octant-place key (2 ^ level) i boxed (size-fits level deep) few)
 
-  pub octant-listed : (tk : List ℕ) → ((q : Place) → CornerOf level (placeWith key) q → T (any (same q) (placesOf tk))) → (k : ℕ)
-      → placeWith k ≡ getD (octants (2 ^ level) (placeWith key)) i origin → Listed tk k
-  unfolding octant
-  octant-listed tk f k e = subst (λ q. T (any (same q) (placesOf tk))) (sym e) (f octant near)
+    module _ (tk : List ℕ) (has : (q : Place) → CornerOf level (placeWith key) q → T (any (same q) (placesOf tk))) where
+      in-table : T (any (same (getD (octants (2 ^ level) (placeWith key)) i origin)) (placesOf tk))
+      in-table = has (getD (octants (2 ^ level) (placeWith key)) i origin) (octant-near key (2 ^ level) i boxed (size-fits level deep) few)
 
-  -- the corner that is read is the one that the rules take
-  pub octant-is : (tk : List ℕ) → Bytes tk → rising (placesOf tk) ≡ true → ((q : Place) → CornerOf level (placeWith key) q → T (any (same q) (placesOf tk))) → (k at : ℕ) (r : Corner)
-      → placeWith at ≡ getD (octants (2 ^ level) (placeWith key)) i origin → (k < length tk / 10) × (placeAt (placesOf tk) k ≡ placeWith at)
-      → r ≡ cornerRecord tk k → r ≡ cornerAt (cornersOf tk) (getD (octants (2 ^ level) (placeWith key)) i origin)
-  unfolding octant
-  octant-is tk b up f k at r e (h, p) q =
-      let g = found tk b up octant (f octant near) in
-      let same-record : k ≡ recordAt tk (keyOf octant) = one-record tk b up k (recordAt tk (keyOf octant)) h (g .0) (p ∙ e ∙ sym (g .1)) in
-      q ∙ ap (cornerRecord tk) same-record
-      ∙ sym (corner-found tk b octant (record { x-fits = omega (arith, small X); y-fits = omega (arith, small Y) }) (g .0))
+      pub corner-listed : Listed tk (key + r)
+      corner-listed = subst (λ q. T (any (same q) (placesOf tk))) (sym corner-place) in-table
 
-pub octant-fits : (key level i s r : ℕ) → i < 8 → (level ≤ 10) × ((a : Axis) → along a (placeWith key) + 2 ^ level ≤ 1024) → s ≡ 2 ^ level → r ≡ octantKey i s
-    → key + r < 18446744073709551616
-octant-fits key level i s r h (l, room) es er =
-    omega (arith, key-small key (λ a. omega (arith, room a)), size-fits level l, octant-key-le i s h (omega (arith, size-fits level l)))
+      -- the corner that is read is the one that the rules take
+      pub corner-is : Bytes tk → rising (placesOf tk) ≡ true → (k : ℕ) (c : Corner) → (k < length tk / 10) × (placeAt (placesOf tk) k ≡ placeWith (key + r))
+          → c ≡ cornerRecord tk k → c ≡ cornerAt (cornersOf tk) (getD (octants (2 ^ level) (placeWith key)) i origin)
+      corner-is b up k c (h, p) q =
+          let o = getD (octants (2 ^ level) (placeWith key)) i origin in
+          let g = found tk b up o in-table in
+          let same-record : k ≡ recordAt tk (keyOf o) = one-record tk b up k (recordAt tk (keyOf o)) h (g .0) (p ∙ corner-place ∙ sym (g .1)) in
+          q ∙ ap (cornerRecord tk) same-record
+          ∙ sym (corner-found tk b o (record { x-fits = omega (arith, small X); y-fits = omega (arith, small Y) }) (g .0))
+
+-- what each corner of a leaf asks
+pub octant-ready : (tc tk : List ℕ) (clearance : Float) → accepted tc tk clearance ≡ true → (key level : ℕ) → LeafAt tc key level → (i : ℕ) → i < 8
+    → (rising (placesOf tk) ≡ true) × (((i < 8) × (level ≤ 10) × ((a : Axis) → along a (placeWith key) + 2 ^ level ≤ 1024))
+    × ((q : Place) → CornerOf level (placeWith key) q → T (any (same q) (placesOf tk))))
+octant-ready tc tk clearance ok key level h i few =
+    let r = leaf-room tc (grown tc tk clearance ok) key level h in
+    (corners-rise tc tk clearance ok, ((few, r .0, r .1), λ q f. listed tc tk clearance ok level (placeWith key) q (h .is-cell) f))
 
 -- a list of eight
 pub eight-marks : (f : Corner → ℕ) (d : Corner) (l : List Corner) → length l ≡ 8 → (a b c e g h i j : ℕ)
@@ -207,22 +205,9 @@ pub marks-are : (tk : List ℕ) (clearance : Float) (key level : ℕ) (l : Leaf)
 unfolding leafOf cornerMarks wetAt
 marks-are tk clearance key level l wets e f = f ∙ ap (λ (x : Leaf). map (λ c. bit (wet clearance c)) (x .corners)) e
 
-six : (f : Side → List Step) (t u v w x y z : Trace) → Recorded (f (upperSide X)) t u → Recorded (f (lowerSide X)) u v → Recorded (f (upperSide Y)) v w
-    → Recorded (f (lowerSide Y)) w x → Recorded (f (upperSide Z)) x y → Recorded (f (lowerSide Z)) y z → Recorded (collect f sides) t z
-six f t u v w x y z a b c d e g =
-    recorded-more (f (upperSide X)) (f (lowerSide X) ++ (f (upperSide Y) ++ (f (lowerSide Y) ++ (f (upperSide Z) ++ (f (lowerSide Z) ++ []))))) t u z a
-    (recorded-more (f (lowerSide X)) (f (upperSide Y) ++ (f (lowerSide Y) ++ (f (upperSide Z) ++ (f (lowerSide Z) ++ [])))) u v z b
-    (recorded-more (f (upperSide Y)) (f (lowerSide Y) ++ (f (upperSide Z) ++ (f (lowerSide Z) ++ []))) v w z c
-    (recorded-more (f (lowerSide Y)) (f (upperSide Z) ++ (f (lowerSide Z) ++ [])) w x z d
-    (recorded-more (f (upperSide Z)) (f (lowerSide Z) ++ []) x y z e (rw append-nil g)))))
-
 -- the steps on the six sides are those of the leaf
-pub sides-recorded : (s : Survey) (c : Cell) (p : Place) (l : ℕ) (t u v w x y z : Trace) → p ≡ c .low → l ≡ c .level
-    → Recorded (sideSteps s (sideAt 0 true) p l) t u → Recorded (sideSteps s (sideAt 0 false) p l) u v → Recorded (sideSteps s (sideAt 1 true) p l) v w
-    → Recorded (sideSteps s (sideAt 1 false) p l) w x → Recorded (sideSteps s (sideAt 2 true) p l) x y → Recorded (sideSteps s (sideAt 2 false) p l) y z
-    → Recorded (leafSteps s c) t z
+pub sides-recorded : (s : Survey) (c : Cell) (p : Place) (l : ℕ) (t u : Trace) → p ≡ c .low → l ≡ c .level
+    → Recorded (firsts (λ i. sideSteps s (sideNumber i) p l) 6) t u → Recorded (leafSteps s c) t u
 unfolding leafSteps smallSteps
-sides-recorded s c p l t u v w x y z ep el a b d e f g =
-    let whole : collect (λ side. sideSteps s side p l) sides ≡ leafSteps s c =
-    ap (λ q. collect (λ side. sideSteps s side q l) sides) ep ∙ ap (λ m. collect (λ side. sideSteps s side (c .low) m) sides) el in
-    subst (λ ss. Recorded ss t z) whole (six (λ side. sideSteps s side p l) t u v w x y z a b d e f g)
+sides-recorded s c p l t u ep el r =
+    subst (λ ss. Recorded ss t u) (simp (append-assoc, append-nil) (rw (ep, el))) r

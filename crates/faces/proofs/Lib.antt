@@ -1,5 +1,6 @@
 pub mod Table
 pub mod Rows
+pub mod Firsts
 pub mod Descent
 pub mod Faces
 pub mod Keys

@@ -13,7 +13,7 @@ use Rattle.base.specs.Grid.{Place, Axis, axisOf, along, put, move, same}
 use Rattle.base.proofs.Tests.{→true, true→, bit-le}
 use Rattle.base.proofs.Places.{put-one, along-put}
 use Rattle.rules.specs.Survey.{cellsOf, cornersOf, wetAt}
-use Rattle.rules.specs.Steps.{Side, face, faceCorner}
+use Rattle.rules.specs.Steps.{Side, faceCorner}
 use Rattle.rules.specs.Outputs.{rising, surveyRefusal, accepted, surveyOf}
 use Rattle.octree.proofs.Lawful.{isCell, CornerOf, Octree, Lawful}
 use Rattle.octree.proofs.Tree.{octree-of}
@@ -26,7 +26,8 @@ use Rattle.edges.proofs.Find.{found}
 use Rattle.edges.proofs.Surveyed.{rises-true, corners-few, cells-few}
 use Rattle.faces.specs.Descent.{placeWith, Grown}
 use Rattle.faces.specs.Patterns.{patternOf}
-use Rattle.faces.specs.Faces.{sideAt, SideOf, Room, Faced, Tables, Marked, Listed, facePattern}
+use Rattle.faces.specs.Faces.{sideOf, faceOf, SideOf, Room, Faced, Tables, Marked, Listed, facePattern}
+use Rattle.faces.specs.declared.Facet.{Facet}
 use Rattle.faces.proofs.Faces.{Axes, side-axes, corner-of}
 use Rattle.faces.proofs.Keys.{key-of-place, across-is, side-room}
 
@@ -43,29 +44,14 @@ mark-is t clearance wets m key k h e = m .wet .entry k h ∙ ap (λ p. bit (wetA
 
 -- ---- a face in the box
 
-module _ (axis : ℕ) (upper : Bool) (key level : ℕ) (room : Room axis upper key level) where
-  pub right-ready : (r : ℕ) → axisOf r ≡ sideAt axis upper .right
-      → ((level ≤ 10) × ((a : Axis) → along a (placeWith key) ≤ 1024)) × (along (axisOf r) (placeWith key) + 2 ^ level ≤ 1024)
-  right-ready r e = ((room .level-less, room .boxed), subst (λ a. along a (placeWith key) + 2 ^ level ≤ 1024) (sym e) (room .right-room))
-
-  pub up-ready : (r : ℕ) → axisOf r ≡ sideAt axis upper .up
-      → ((level ≤ 10) × ((a : Axis) → along a (placeWith key) ≤ 1024)) × (along (axisOf r) (placeWith key) + 2 ^ level ≤ 1024)
-  up-ready r e = ((room .level-less, room .boxed), subst (λ a. along a (placeWith key) + 2 ^ level ≤ 1024) (sym e) (room .up-room))
-
-  -- from the corner above the lowest one on to the right
-  pub far-ready : (r u over : ℕ) → axisOf r ≡ sideAt axis upper .right → axisOf u ≡ sideAt axis upper .up
-      → placeWith over ≡ move (axisOf u) (2 ^ level) (placeWith key)
-      → ((level ≤ 10) × ((a : Axis) → along a (placeWith over) ≤ 1024)) × (along (axisOf r) (placeWith over) + 2 ^ level ≤ 1024)
-  far-ready r u over e f g =
-      let s = sideAt axis upper in
-      let p = placeWith key in
-      let q : placeWith over ≡ move (s .up) (2 ^ level) p = g ∙ ap (λ a. move a (2 ^ level) p) f in
-      let boxed : (a : Axis) → along a (move (s .up) (2 ^ level) p) ≤ 1024 = put-one (λ a v. v ≤ 1024) (s .up) (along (s .up) p + 2 ^ level) p (room .up-room) (room .boxed) in
-      let across : along (s .right) (move (s .up) (2 ^ level) p) ≡ along (s .right) p = side-axes axis upper .right-up (along (s .up) p + 2 ^ level) p in (
-        (room .level-less, subst (λ x. (a : Axis) → along a x ≤ 1024) (sym q) boxed),
-        subst (λ a. along a (placeWith over) + 2 ^ level ≤ 1024) (sym e)
-            (subst (λ x. along (s .right) x + 2 ^ level ≤ 1024) (sym q) (omega (arith, room .right-room))),
-      )
+-- the corner above the lowest one is in the box
+pub over-boxed : (f : Facet) → Room f → (u over : ℕ) → axisOf u ≡ sideOf f .up → placeWith over ≡ move (axisOf u) (2 ^ f .level) (placeWith (f .key))
+    → (a : Axis) → along a (placeWith over) ≤ 1024
+over-boxed f room u over e g =
+    let s = sideOf f in
+    let p = placeWith (f .key) in
+    subst (λ q. (a : Axis) → along a q ≤ 1024) (sym (g ∙ ap (λ a. move a (2 ^ f .level) p) e))
+    (put-one (λ a v. v ≤ 1024) (s .up) (along (s .up) p + 2 ^ f .level) p (room .up-room) (room .boxed))
 
 -- ---- what an accepted survey gives
 
@@ -93,35 +79,46 @@ module _ (tc tk : List ℕ) (clearance : Float) (ok : accepted tc tk clearance �
   unfolding surveyOf
   listed = checked-lawful tc tk clearance (checked tc tk no-refusal) .listed
 
-  module _ (axis : ℕ) (upper : Bool) (key level : ℕ) (f : Faced tc axis key level) where
-    pub side-of : SideOf (cellsOf tc) (sideAt axis upper .across) level (placeWith key)
-    side-of = subst (λ a. SideOf (cellsOf tc) a level (placeWith key)) (sym (across-is axis upper)) (f .side)
+  module _ (f : Facet) (x : Faced tc f) where
+    pub side-of : SideOf (cellsOf tc) (sideOf f .across) (f .level) (placeWith (f .key))
+    side-of = subst (λ a. SideOf (cellsOf tc) a (f .level) (placeWith (f .key))) (sym (across-is (f .axis) (f .upper))) (x .side)
 
-    pub face-room : Room axis upper key level
-    face-room = side-room (cellsOf tc) octree axis upper level key (f .axis-less) side-of
+    pub face-room : Room f
+    face-room = side-room (cellsOf tc) octree f (x .axis-less) side-of
 
     -- every corner of the face is listed
-    pub face-listed : (i : ℕ) → T (any (same (faceCorner (sideAt axis upper) (face (placeWith key) level) i)) (placesOf tk))
+    pub face-listed : (i : ℕ) → T (any (same (faceCorner (sideOf f) (faceOf f) i)) (placesOf tk))
     face-listed i =
         let (q, c, h) = side-of in
-        listed level q (faceCorner (sideAt axis upper) (face (placeWith key) level) i) c (corner-of (sideAt axis upper) (side-axes axis upper) level (placeWith key) q h i)
+        listed (f .level) q (faceCorner (sideOf f) (faceOf f) i) c (corner-of (sideOf f) (side-axes (f .axis) (f .upper)) (f .level)
+        (placeWith (f .key)) q h i)
 
     -- the wet pattern from the marks of the four corners
-    pub pattern-is : (a b c d : ℕ) → let s = surveyOf tc tk clearance in let w : ℕ → Bool = λ i. s .isWet (faceCorner (sideAt axis upper) (face (placeWith key) level) i) in
+    pub pattern-is : (a b c d : ℕ) → let s = surveyOf tc tk clearance in let w : ℕ → Bool = λ i. s .isWet (faceCorner (sideOf f) (faceOf f) i) in
         a ≡ bit (w 0) → b ≡ bit (w 1) → c ≡ bit (w 2) → d ≡ bit (w 3)
-        → (a + 2 * b + 4 * c + 8 * d ≡ facePattern s (sideAt axis upper) (face (placeWith key) level)) × (a + 2 * b + 4 * c + 8 * d < 16)
+        → (a + 2 * b + 4 * c + 8 * d ≡ facePattern s (sideOf f) (faceOf f)) × (a + 2 * b + 4 * c + 8 * d < 16)
     unfolding facePattern
     pattern-is a b c d ea eb ec ed =
         let s = surveyOf tc tk clearance in
-        let w : ℕ → Bool = λ i. s .isWet (faceCorner (sideAt axis upper) (face (placeWith key) level) i) in
-        (rw (ea, eb, ec, ed) refl, omega (arith, bit-le (w 0) true (λ u. tt), bit-le (w 1) true (λ u. tt), bit-le (w 2) true (λ u. tt), bit-le (w 3) true (λ u. tt)))
+        let w : ℕ → Bool = λ i. s .isWet (faceCorner (sideOf f) (faceOf f) i) in (
+          rw (ea, eb, ec, ed) refl,
+          omega (
+            arith,
+            bit-le (w 0) true (λ u. tt),
+            bit-le (w 1) true (λ u. tt),
+            bit-le (w 2) true (λ u. tt),
+            bit-le (w 3) true
+                (λ u. tt),
+          ),
+        )
 
     -- a mark read at a key is that of the corner there
-    pub mark-at : (k : ℕ) (p : Place) (m : ℕ) → placeWith k ≡ p → m ≡ bit (wetAt (cornersOf tk) clearance (placeWith k)) → m ≡ bit (surveyOf tc tk clearance .isWet p)
+    pub mark-at : (k : ℕ) (p : Place) (m : ℕ) → placeWith k ≡ p → m ≡ bit (wetAt (cornersOf tk) clearance (placeWith k)) → m
+        ≡ bit (surveyOf tc tk clearance .isWet p)
     unfolding surveyOf
     mark-at k p m e h = h ∙ ap (λ q. bit (wetAt (cornersOf tk) clearance q)) e
 
-    pub listed-at : (k : ℕ) (i : ℕ) → placeWith k ≡ faceCorner (sideAt axis upper) (face (placeWith key) level) i → Listed tk k
+    pub listed-at : (k : ℕ) (i : ℕ) → placeWith k ≡ faceCorner (sideOf f) (faceOf f) i → Listed tk k
     listed-at k i e = subst (λ p. T (any (same p) (placesOf tk))) (sym e) (face-listed i)
 
     -- a move along an axis of the side, by its number
@@ -129,8 +126,9 @@ module _ (tc tk : List ℕ) (clearance : Float) (ok : accepted tc tk clearance �
     moved-by n d p q a e h = h ∙ ap (λ b. move b d p) e
 
     -- the corner moved up and then right
-    pub far-corner : (n m over far : ℕ) → axisOf n ≡ sideAt axis upper .right → axisOf m ≡ sideAt axis upper .up → placeWith over ≡ move (axisOf m) (2 ^ level) (placeWith key)
-        → placeWith far ≡ move (axisOf n) (2 ^ level) (placeWith over) → placeWith far ≡ faceCorner (sideAt axis upper) (face (placeWith key) level) 2
-    far-corner n m over far e f g h =
-        moved-by n (2 ^ level) (placeWith over) (placeWith far) (sideAt axis upper .right) e h
-        ∙ ap (move (sideAt axis upper .right) (2 ^ level)) (moved-by m (2 ^ level) (placeWith key) (placeWith over) (sideAt axis upper .up) f g)
+    pub far-corner : (n m over far : ℕ) → axisOf n ≡ sideOf f .right → axisOf m ≡ sideOf f .up → placeWith over
+        ≡ move (axisOf m) (2 ^ f .level) (placeWith (f .key))
+        → placeWith far ≡ move (axisOf n) (2 ^ f .level) (placeWith over) → placeWith far ≡ faceCorner (sideOf f) (faceOf f) 2
+    far-corner n m over far e o g h =
+        moved-by n (2 ^ f .level) (placeWith over) (placeWith far) (sideOf f .right) e h
+        ∙ ap (move (sideOf f .right) (2 ^ f .level)) (moved-by m (2 ^ f .level) (placeWith (f .key)) (placeWith over) (sideOf f .up) o g)

@@ -22,12 +22,13 @@ use Rattle.octree.proofs.Lawful.{isCell, isSplit}
 use Rattle.octree.proofs.Cells.{split-cell}
 use Rattle.octree.proofs.Aligned.{cell-in-box}
 use Rattle.cells.specs.Laid.{octantKey, cellAt}
+use Rattle.records.specs.Keys.{keyOf}
 use Rattle.edges.specs.Noting.{keyUnit}
 use Rattle.faces.specs.Descent.{placeWith, recordOf, Grown}
 use Rattle.faces.specs.Faces.{sideAt, octantBit, Across, FoundAcross, LeafAt, cornerMarks, ownPattern, facePattern}
-use Rattle.faces.proofs.Keys.{octant-unit}
+use Rattle.faces.proofs.Keys.{place-of-key}
 use Rattle.faces.proofs.Descent.{tree, cell-is, split-is, record-found, record-none}
-use Rattle.faces.proofs.Across.{across-split, quarters}
+use Rattle.faces.proofs.Across.{across-split, quarters, eight}
 
 -- ---- coordinates
 
@@ -60,39 +61,17 @@ key-covers X k d h = omega arith
 key-covers Y k d h = let q : k / 65536 % 65536 ≤ k / 65536 = omega arith in omega arith
 key-covers Z k d h = omega arith
 
-less-low : (m d : ℕ) → d ≤ m % 65536 → ((m - d) % 65536 ≡ m % 65536 - d) × ((m - d) / 65536 ≡ m / 65536)
-less-low m d h = (omega arith, omega arith)
-
-highest : (k : ℕ) → k / 4294967296 ≡ k / 65536 / 65536
-highest k = omega arith
+back-key : (a : Axis) (k d : ℕ) → d ≤ along a (placeWith k) → keyOf (back a d (placeWith k)) ≡ k - d * keyUnit a
+unfolding keyOf placeWith
+back-key X k d h = omega arith
+back-key Y k d h = omega arith
+back-key Z k d h = omega arith
 
 pub place-back : (a : Axis) (k d : ℕ) → d ≤ along a (placeWith k) → placeWith (k - d * keyUnit a) ≡ back a d (placeWith k)
 unfolding placeWith
-place-back X k d h =
-    let r = less-low k d h in
-    let w : k - d * 1 ≡ k - d = omega arith in
-    let a : (k - d * 1) % 65536 ≡ k % 65536 - d = ap (λ n. n % 65536) w ∙ r .0 in
-    let q : (k - d * 1) / 65536 ≡ k / 65536 = ap (λ n. n / 65536) w ∙ r .1 in
-    let b : (k - d * 1) / 65536 % 65536 ≡ k / 65536 % 65536 = ap (λ n. n % 65536) q in
-    let c : (k - d * 1) / 4294967296 ≡ k / 4294967296 = highest (k - d * 1) ∙ ap (λ n. n / 65536) q ∙ sym (highest k) in
-    λ i. record { x = a i; y = b i; z = c i }
-place-back Y k d h =
-    let q : (k - d * 65536) / 65536 ≡ k / 65536 - d = omega arith in
-    let r = less-low (k / 65536) d h in
-    let a : (k - d * 65536) % 65536 ≡ k % 65536 = omega (arith, key-covers Y k d (unfold placeWith in h)) in
-    let b : (k - d * 65536) / 65536 % 65536 ≡ k / 65536 % 65536 - d = ap (λ n. n % 65536) q ∙ r .0 in
-    let c : (k - d * 65536) / 4294967296 ≡ k / 4294967296 = highest (k - d * 65536) ∙ ap (λ n. n / 65536) q ∙ r .1 ∙ sym (highest k) in
-    λ i. record { x = a i; y = b i; z = c i }
-place-back Z k d h =
-    let q : (k - d * 4294967296) / 65536 ≡ k / 65536 - d * 65536 = omega arith in
-    let p : d * 65536 ≤ k / 65536 = omega arith in
-    let a : (k - d * 4294967296) % 65536 ≡ k % 65536 = omega (arith, key-covers Z k d (unfold placeWith in h)) in
-    let b : (k - d * 4294967296) / 65536 % 65536 ≡ k / 65536 % 65536 = ap (λ n. n % 65536) q ∙ high-less (k / 65536) d p in
-    let c : (k - d * 4294967296) / 4294967296 ≡ k / 4294967296 - d = omega arith in
-    λ i. record { x = a i; y = b i; z = c i }
-  where
-    high-less : (m d : ℕ) → d * 65536 ≤ m → (m - d * 65536) % 65536 ≡ m % 65536
-    high-less m d h = omega arith
+place-back X k d h = ap placeWith (sym (back-key X k d h)) ∙ place-of-key (back X d (placeWith k)) (omega arith) (omega arith)
+place-back Y k d h = ap placeWith (sym (back-key Y k d h)) ∙ place-of-key (back Y d (placeWith k)) (omega arith) (omega arith)
+place-back Z k d h = ap placeWith (sym (back-key Z k d h)) ∙ place-of-key (back Z d (placeWith k)) (omega arith) (omega arith)
 
 -- ---- across a side
 
@@ -128,24 +107,33 @@ module _ (tc : List ℕ) (g : Grown tc) (n : ℕ) (u : Bool) (key level : ℕ) (
       go : (u : Bool) → (not u && ltb (along (axisOf n) (placeWith key)) (2 ^ level)) ≡ true
           → any (splitAcross (sideAt n u) (sideLow (sideAt n u) (cell (placeWith key) level false)) level) (cellsOf tc) ≡ false
       go true h = absurd (subst T (sym h) tt)
-      go false h = false→ (any (splitAcross (sideAt n false) (placeWith key) level) (cellsOf tc)) (not-T (any (splitAcross (sideAt n false) (placeWith key) level) (cellsOf tc)) (λ t.
+      go false h =
+          false→ (any (splitAcross (sideAt n false) (placeWith key) level) (cellsOf tc))
+          (not-T (any (splitAcross (sideAt n false) (placeWith key) level) (cellsOf tc)) (λ t.
           let f = any→in (splitAcross (sideAt n false) (placeWith key) level) (cellsOf tc) t in
           let c = f .0 in
           let m = and→ (c .split) (eqb level (c .level) && same (placeWith key) (move (axisOf n) (2 ^ level) (c .low))) (f .2) in
-          let e = same→ (placeWith key) (move (axisOf n) (2 ^ level) (c .low)) (and→ (eqb level (c .level)) (same (placeWith key) (move (axisOf n) (2 ^ level) (c .low))) (m .1) .1) in
+          let e = same→ (placeWith key) (move (axisOf n) (2 ^ level) (c .low))
+          (and→ (eqb level (c .level)) (same (placeWith key) (move (axisOf n) (2 ^ level) (c .low))) (m .1) .1) in
           let v = ap (along (axisOf n)) e ∙ along-put (axisOf n) (along (axisOf n) (c .low) + 2 ^ level) (c .low) in
           omega (arith, ltb-true (along (axisOf n) (placeWith key)) (2 ^ level) h)))
 
   module _ (k : ℕ) (place : placeWith k ≡ cond u (move (axisOf n) (2 ^ level) (placeWith key)) (back (axisOf n) (2 ^ level) (placeWith key)))
       (room : (not u && ltb (along (axisOf n) (placeWith key)) (2 ^ level)) ≡ false) (r : ℕ) (found : r ≡ recordOf tc level (placeWith k)) where
-    split-there : any (splitAcross (sideAt n u) (sideLow (sideAt n u) (cell (placeWith key) level false)) level) (cellsOf tc) ≡ isSplit (cellsOf tc) level (placeWith k)
-    split-there = across-split (cellsOf tc) n u level (sideLow (sideAt n u) (cell (placeWith key) level false)) (placeWith k) (side-is n u level (placeWith key) (placeWith k) place room)
+    split-there : any (splitAcross (sideAt n u) (sideLow (sideAt n u) (cell (placeWith key) level false)) level) (cellsOf tc)
+        ≡ isSplit (cellsOf tc) level (placeWith k)
+    split-there =
+        across-split (cellsOf tc) n u level (sideLow (sideAt n u) (cell (placeWith key) level false)) (placeWith k)
+        (side-is n u level (placeWith key) (placeWith k) place room)
 
     -- no cell of the size is there
     pub none-across : (m : ℕ) → length tc / 4 ≤ r → m ≡ length tc / 4 → FoundAcross tc n u key level m
     none-across m h e = record {
       split = λ l. absurd (omega arith);
-      whole = λ l. split-there ∙ false→ (isSplit (cellsOf tc) level (placeWith k)) (not-T (isSplit (cellsOf tc) level (placeWith k)) (λ t. record-none tc g level (placeWith k) (omega arith) (split-cell (cellsOf tc) level (placeWith k) t)));
+      whole =
+          λ l. split-there ∙ false→ (isSplit (cellsOf tc) level (placeWith k))
+          (not-T (isSplit (cellsOf tc) level (placeWith k)) (λ t. record-none tc g level (placeWith k) (omega arith)
+          (split-cell (cellsOf tc) level (placeWith k) t)));
     }
 
     there : r < length tc / 4 → (cellAt tc r .level ≡ level) × (cellAt tc r .low ≡ placeWith k)
@@ -177,23 +165,9 @@ module _ (tc : List ℕ) (g : Grown tc) (n : ℕ) (u : Bool) (key level : ℕ) (
 
 -- ---- the side's own pattern
 
--- the four corners of a side are among the eight
-pub own-less : (m : ℕ) (u : Bool) → cond u (octantBit (axisOf m)) 0 + octantBit (sideAt m u .right) + octantBit (sideAt m u .up) < 8
-own-less m true = on (axisOf m)
-  where
-    on : (a : Axis) → octantBit a + octantBit (next a) + octantBit (next (next a)) < 8
-    on X = omega arith
-    on Y = omega arith
-    on Z = omega arith
-own-less m false = on (axisOf m)
-  where
-    on : (a : Axis) → 0 + octantBit (next (next a)) + octantBit (next a) < 8
-    on X = omega arith
-    on Y = omega arith
-    on Z = omega arith
-
 -- the marks of a cube's corners on a side are those of the face's corners
-pub own-is : (tk : List ℕ) (clearance : Float) (tc : List ℕ) (n : ℕ) (u : Bool) (key level : ℕ) (wet : List ℕ) (side : ℕ) → wet ≡ cornerMarks tk clearance key level
+pub own-is : (tk : List ℕ) (clearance : Float) (tc : List ℕ) (n : ℕ) (u : Bool) (key level : ℕ) (wet : List ℕ) (side : ℕ) → wet
+    ≡ cornerMarks tk clearance key level
     → placeWith side ≡ sideLow (sideAt n u) (cell (placeWith key) level false)
     → ownPattern wet n u ≡ facePattern (surveyOf tc tk clearance) (sideAt n u) (face (placeWith side) level)
 unfolding cornerMarks ownPattern facePattern surveyOf
@@ -208,12 +182,13 @@ own-is tk clearance tc n u key level wet side e f =
     ∙ one-bit (wetAt (cornersOf tk) clearance x) in
     let low : sideLow (sideAt n u) (cell p level false) ≡ cond u (move (axisOf n) s p) p = low-cond n u level p in
     let b : placeWith side ≡ cond u (move (axisOf n) s p) p = f ∙ low in
-    let less = own-less n u in
+    let less = eight n u u in
     λ i.
     (at (cond u (octantBit (axisOf n)) 0) (placeWith side) (omega arith) (q .near ∙ sym b)) i
     + 2 * (at (cond u (octantBit (axisOf n)) 0 + octantBit (sideAt n u .right)) (move (sideAt n u .right) s (placeWith side)) (omega arith)
     (q .beside ∙ ap (move (sideAt n u .right) s) (sym b))) i
-    + 4 * (at (cond u (octantBit (axisOf n)) 0 + octantBit (sideAt n u .right) + octantBit (sideAt n u .up)) (move (sideAt n u .right) s (move (sideAt n u .up) s (placeWith side))) less
+    + 4 * (at (cond u (octantBit (axisOf n)) 0 + octantBit (sideAt n u .right) + octantBit (sideAt n u .up))
+    (move (sideAt n u .right) s (move (sideAt n u .up) s (placeWith side))) less
     (q .beyond ∙ ap (λ x. move (sideAt n u .right) s (move (sideAt n u .up) s x)) (sym b))) i
     + 8 * (at (cond u (octantBit (axisOf n)) 0 + octantBit (sideAt n u .up)) (move (sideAt n u .up) s (placeWith side)) (omega arith)
     (q .above ∙ ap (move (sideAt n u .up) s) (sym b))) i

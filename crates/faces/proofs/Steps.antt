@@ -23,11 +23,13 @@ use Rattle.records.specs.Keys.{placesOf}
 use Rattle.edges.specs.Tables.{placeAt, OddEdge, Lowest}
 use Rattle.edges.proofs.TwinSlots.{points-few}
 use Rattle.trace.specs.Trace.{Trace, Sized, Recorded}
-use Rattle.trace.proofs.Laws.{recorded-none, recorded-more}
+use Rattle.trace.proofs.Laws.{recorded-none}
 use Rattle.faces.specs.Descent.{placeWith}
 use Rattle.faces.specs.Patterns.{stepFrom, patternOf, stepTo}
-use Rattle.faces.specs.Faces.{sideAt, SideOf, Faced, Marked, Listed, OddAt, facePattern, pointStep, rowSteps}
+use Rattle.faces.specs.Faces.{sideOf, faceOf, SideOf, Faced, Marked, Listed, OddAt, facePattern, pointStep, rowSteps}
+use Rattle.faces.specs.declared.Facet.{Facet}
 use Rattle.faces.proofs.Faces.{Axes, side-axes, edge-of, odd-is, differ, step-odd, face-rows}
+use Rattle.faces.proofs.Firsts.{firsts}
 use Rattle.faces.proofs.Looks.{mark-is, octree, face-listed, side-of}
 
 -- a mark that is read
@@ -45,91 +47,96 @@ whole-edge s f (suc (suc zero)) = refl
 whole-edge s f (suc (suc (suc i))) = refl
 
 module _ (tc tk : List ℕ) (clearance : Float) (ok : accepted tc tk clearance ≡ true)
-    (axis : ℕ) (upper : Bool) (key level : ℕ) (f : Faced tc axis key level) where
+    (f : Facet) (x : Faced tc f) where
   -- the lower end of edge i is listed
-  pub low-listed : (k i : ℕ) → placeWith k ≡ faceEdge (sideAt axis upper) (face (placeWith key) level) i .low → Listed tk k
+  pub low-listed : (k i : ℕ) → placeWith k ≡ faceEdge (sideOf f) (faceOf f) i .low → Listed tk k
   low-listed k i e = subst (λ p. T (any (same p) (placesOf tk))) (sym e) (at i)
     where
-      at : (i : ℕ) → T (any (same (faceEdge (sideAt axis upper) (face (placeWith key) level) i .low)) (placesOf tk))
-      at zero = face-listed tc tk clearance ok axis upper key level f 0
-      at (suc zero) = face-listed tc tk clearance ok axis upper key level f 1
-      at (suc (suc zero)) = face-listed tc tk clearance ok axis upper key level f 3
-      at (suc (suc (suc i))) = face-listed tc tk clearance ok axis upper key level f 0
+      at : (i : ℕ) → T (any (same (faceEdge (sideOf f) (faceOf f) i .low)) (placesOf tk))
+      at zero = face-listed tc tk clearance ok f x 0
+      at (suc zero) = face-listed tc tk clearance ok f x 1
+      at (suc (suc zero)) = face-listed tc tk clearance ok f x 3
+      at (suc (suc (suc i))) = face-listed tc tk clearance ok f x 0
 
-  is-edge : (i : ℕ) → let e = faceEdge (sideAt axis upper) (face (placeWith key) level) i in T (isEdge (cellsOf tc) (e .axis) (e .low) level)
+  is-edge : (i : ℕ) → let e = faceEdge (sideOf f) (faceOf f) i in T (isEdge (cellsOf tc) (e .axis) (e .low) (f .level))
   is-edge i =
-      let (q, c, h) = side-of tc tk clearance ok axis upper key level f in
-      edge-of (sideAt axis upper) (side-axes axis upper) level (placeWith key) q h (cellsOf tc) c i
+      let (q, c, h) = side-of tc tk clearance ok f x in
+      edge-of (sideOf f) (side-axes (f .axis) (f .upper)) (f .level) (placeWith (f .key)) q h (cellsOf tc) c i
 
   -- what the point of an odd edge asks
-  pub edge-ready : (i n k ek : ℕ) → ((g : Face) → axisOf n ≡ faceEdge (sideAt axis upper) g i .axis)
-      → placeWith ek ≡ faceEdge (sideAt axis upper) (face (placeWith key) level) i .low
-      → (k < length tk / 10) × (placeAt (placesOf tk) k ≡ placeWith ek) → OddAt tk clearance axis upper key level i
-      → OddEdge tc tk clearance (axisOf n) k level
+  pub edge-ready : (i n k ek : ℕ) → axisOf n ≡ faceEdge (sideOf f) (faceOf f) i .axis
+      → placeWith ek ≡ faceEdge (sideOf f) (faceOf f) i .low
+      → (k < length tk / 10) × (placeAt (placesOf tk) k ≡ placeWith ek) → OddAt tk clearance f i
+      → OddEdge tc tk clearance (axisOf n) k (f .level)
   edge-ready i n k ek a p (h, e) o = record {
     inside = h;
-    is-edge = subst (λ b. T (isEdge (cellsOf tc) b (placeAt (placesOf tk) k) level)) (sym (a fc)) (subst (λ q. T (isEdge (cellsOf tc) (faceEdge sd fc i .axis) q level)) (sym (e ∙ p)) (is-edge i));
-    is-odd = subst (λ b. T (odd (wetAt (cornersOf tk) clearance) b (placeAt (placesOf tk) k) level)) (sym (a fc)) (subst (λ q. T (odd (wetAt (cornersOf tk) clearance) (faceEdge sd fc i .axis) q level)) (sym (e ∙ p)) o);
+    is-edge =
+        subst (λ b. T (isEdge (cellsOf tc) b (placeAt (placesOf tk) k) (f .level))) (sym a)
+        (subst (λ q. T (isEdge (cellsOf tc) (faceEdge sd fc i .axis) q (f .level))) (sym (e ∙ p)) (is-edge i));
+    is-odd =
+        subst (λ b. T (odd (wetAt (cornersOf tk) clearance) b (placeAt (placesOf tk) k) (f .level))) (sym a)
+        (subst (λ q. T (odd (wetAt (cornersOf tk) clearance) (faceEdge sd fc i .axis) q (f .level))) (sym (e ∙ p)) o);
   }
     where
       sd : Side
-      sd = sideAt axis upper
+      sd = sideOf f
 
       fc : Face
-      fc = face (placeWith key) level
+      fc = faceOf f
 
   -- the point that is found is that of the edge, and it is one of the points
-  pub point-is : (lowest : List ℕ) → Lowest tc tk lowest → (i n k ek r : ℕ) → ((g : Face) → axisOf n ≡ faceEdge (sideAt axis upper) g i .axis)
-      → placeWith ek ≡ faceEdge (sideAt axis upper) (face (placeWith key) level) i .low
-      → (k < length tk / 10) × (placeAt (placesOf tk) k ≡ placeWith ek) → OddAt tk clearance axis upper key level i
-      → r ≡ pointOf (surveyOf tc tk clearance) (edge (axisOf n) (placeAt (placesOf tk) k) level)
-      → (r ≡ pointOf (surveyOf tc tk clearance) (faceEdge (sideAt axis upper) (face (placeWith key) level) i)) × (r < 14616)
+  pub point-is : (lowest : List ℕ) → Lowest tc tk lowest → (i n k ek r : ℕ) → axisOf n ≡ faceEdge (sideOf f) (faceOf f) i .axis
+      → placeWith ek ≡ faceEdge (sideOf f) (faceOf f) i .low
+      → (k < length tk / 10) × (placeAt (placesOf tk) k ≡ placeWith ek) → OddAt tk clearance f i
+      → r ≡ pointOf (surveyOf tc tk clearance) (edge (axisOf n) (placeAt (placesOf tk) k) (f .level))
+      → (r ≡ pointOf (surveyOf tc tk clearance) (faceEdge (sideOf f) (faceOf f) i)) × (r < 14616)
   unfolding surveyOf pointOf
   point-is lowest low i n k ek r a p (h, e) o q =
       let s = surveyOf tc tk clearance in
-      let sd = sideAt axis upper in
-      let fc = face (placeWith key) level in
+      let sd = sideOf f in
+      let fc = faceOf f in
       let g = faceEdge sd fc i in
       let law = lawful tc tk clearance (→true ok) in
-      let w : edge (axisOf n) (placeAt (placesOf tk) k) level ≡ g =
-      ap (λ b. edge b (placeAt (placesOf tk) k) level) (a fc) ∙ ap (λ x. edge (g .axis) x level) (e ∙ p) ∙ whole-edge sd fc i in
-      let m : pointOf s (edge (g .axis) (g .low) level) < length (pointEdges s) = crossed-carries s law (carrier s (g .axis) (g .low) level) (carrier-crossed s (law .octree) (g .axis) (g .low) level (is-edge i) o) .0 in
-      let z : pointOf s (edge (g .axis) (g .low) level) ≡ pointOf s g = ap (pointOf s) (whole-edge sd fc i) in
+      let w : edge (axisOf n) (placeAt (placesOf tk) k) (f .level) ≡ g =
+      ap (λ b. edge b (placeAt (placesOf tk) k) (f .level)) a ∙ ap (λ x. edge (g .axis) x (f .level)) (e ∙ p) ∙ whole-edge sd fc i in
+      let m : pointOf s (edge (g .axis) (g .low) (f .level)) < length (pointEdges s) = crossed-carries s law (carrier s (g .axis) (g .low) (f .level))
+      (carrier-crossed s (law .octree) (g .axis) (g .low) (f .level) (is-edge i) o) .0 in
+      let z : pointOf s (edge (g .axis) (g .low) (f .level)) ≡ pointOf s g = ap (pointOf s) (whole-edge sd fc i) in
       let t = q ∙ ap (pointOf s) w in
       (t, omega (arith, points-few tc tk clearance ok lowest low))
 
   -- both edges of a step are odd
-  pub step-ready : (pattern i j : ℕ) → i < 4 → pattern ≡ facePattern (surveyOf tc tk clearance) (sideAt axis upper) (face (placeWith key) level)
-      → j ≡ stepFrom pattern i → j < 4 → OddAt tk clearance axis upper key level i × OddAt tk clearance axis upper key level j
+  pub step-ready : (pattern i j : ℕ) → i < 4 → pattern ≡ facePattern (surveyOf tc tk clearance) (sideOf f) (faceOf f)
+      → j ≡ stepFrom pattern i → j < 4 → OddAt tk clearance f i × OddAt tk clearance f j
   unfolding facePattern surveyOf
   step-ready pattern i j h e d l =
-      let sd = sideAt axis upper in
-      let fc = face (placeWith key) level in
+      let sd = sideOf f in
+      let fc = faceOf f in
       let wet : Place → Bool = wetAt (cornersOf tk) clearance in
       let w : ℕ → Bool = λ n. wet (faceCorner sd fc n) in
       let o = step-odd (w 0) (w 1) (w 2) (w 3) i j h (d ∙ ap (λ p. stepFrom p i) e) l in
-      (subst T (sym (odd-is wet sd (side-axes axis upper) fc i)) (o .0), subst T (sym (odd-is wet sd (side-axes axis upper) fc j)) (o .1))
+      (subst T (sym (odd-is wet sd (side-axes (f .axis) (f .upper)) fc i)) (o .0), subst T (sym (odd-is wet sd (side-axes (f .axis) (f .upper)) fc j)) (o .1))
 
   -- no step enters by edge i
   pub row-none : (pattern i j : ℕ) (t : Trace) → j ≡ stepFrom pattern i → 4 ≤ j → Sized t
-      → Recorded (rowSteps (surveyOf tc tk clearance) (sideAt axis upper) (face (placeWith key) level) pattern i) t t
+      → Recorded (rowSteps (surveyOf tc tk clearance) (sideOf f) (faceOf f) pattern i) t t
   unfolding rowSteps
   row-none pattern i j t e h z =
-      let sd = sideAt axis upper in
-      let fc = face (placeWith key) level in
+      let sd = sideOf f in
+      let fc = faceOf f in
       let n : stepTo i (stepFrom pattern i) ≡ [] = ap (λ b. cond b ((i, stepFrom pattern i) ∷ []) []) (le-ltb (stepFrom pattern i) 4 (omega arith)) in
       subst (λ ss. Recorded ss t t) (sym (ap (map (pointStep (surveyOf tc tk clearance) sd fc)) n)) (recorded-none t z)
 
   -- one step does
   pub row-one : (pattern i j a b : ℕ) (t u : Trace) → j ≡ stepFrom pattern i → j < 4
-      → a ≡ pointOf (surveyOf tc tk clearance) (faceEdge (sideAt axis upper) (face (placeWith key) level) i)
-      → b ≡ pointOf (surveyOf tc tk clearance) (faceEdge (sideAt axis upper) (face (placeWith key) level) j)
-      → Recorded ((a, b) ∷ []) t u → Recorded (rowSteps (surveyOf tc tk clearance) (sideAt axis upper) (face (placeWith key) level) pattern i) t u
+      → a ≡ pointOf (surveyOf tc tk clearance) (faceEdge (sideOf f) (faceOf f) i)
+      → b ≡ pointOf (surveyOf tc tk clearance) (faceEdge (sideOf f) (faceOf f) j)
+      → Recorded ((a, b) ∷ []) t u → Recorded (rowSteps (surveyOf tc tk clearance) (sideOf f) (faceOf f) pattern i) t u
   unfolding rowSteps
   row-one pattern i j a b t u e h ea eb r =
       let s = surveyOf tc tk clearance in
-      let sd = sideAt axis upper in
-      let fc = face (placeWith key) level in
+      let sd = sideOf f in
+      let fc = faceOf f in
       let n : stepTo i j ≡ (i, j) ∷ [] = ap (λ x. cond x ((i, j) ∷ []) []) (lt-ltb j 4 h) in
       let m : (a, b) ∷ [] ≡ map (pointStep s sd fc) (stepTo i (stepFrom pattern i)) =
       ap (λ x. (x, b) ∷ []) ea ∙ ap (λ y. (pointOf s (faceEdge sd fc i), y) ∷ []) eb
@@ -137,16 +144,9 @@ module _ (tc tk : List ℕ) (clearance : Float) (ok : accepted tc tk clearance �
       subst (λ ss. Recorded ss t u) m r
 
   -- the four rows of a face
-  pub rows-recorded : (pattern : ℕ) (t u v w x : Trace) → pattern ≡ facePattern (surveyOf tc tk clearance) (sideAt axis upper) (face (placeWith key) level)
-      → let row : ℕ → List Step = rowSteps (surveyOf tc tk clearance) (sideAt axis upper) (face (placeWith key) level) pattern in
-      Recorded (row 0) t u → Recorded (row 1) u v → Recorded (row 2) v w → Recorded (row 3) w x
-      → Recorded (faceSteps (surveyOf tc tk clearance) (sideAt axis upper) (face (placeWith key) level)) t x
-  rows-recorded pattern t u v w x e a b c d =
-      let s = surveyOf tc tk clearance in
-      let sd = sideAt axis upper in
-      let fc = face (placeWith key) level in
-      let row : ℕ → List Step = rowSteps s sd fc pattern in
-      let all : row 0 ++ row 1 ++ row 2 ++ row 3 ≡ faceSteps s sd fc =
-      ap (λ p. rowSteps s sd fc p 0 ++ rowSteps s sd fc p 1 ++ rowSteps s sd fc p 2 ++ rowSteps s sd fc p 3) e ∙ sym (face-rows tc tk clearance sd fc) in
-      subst (λ ss. Recorded ss t x) all
-      (recorded-more (row 0 ++ row 1 ++ row 2) (row 3) t w x (recorded-more (row 0 ++ row 1) (row 2) t v w (recorded-more (row 0) (row 1) t u v a b) c) d)
+  pub rows-recorded : (pattern : ℕ) (t u : Trace) → pattern ≡ facePattern (surveyOf tc tk clearance) (sideOf f) (faceOf f)
+      → Recorded (firsts (rowSteps (surveyOf tc tk clearance) (sideOf f) (faceOf f) pattern) 4) t u
+      → Recorded (faceSteps (surveyOf tc tk clearance) (sideOf f) (faceOf f)) t u
+  rows-recorded pattern t u e r =
+      let rows : ℕ → List Step = λ p. firsts (rowSteps (surveyOf tc tk clearance) (sideOf f) (faceOf f) p) 4 in
+      subst (λ ss. Recorded ss t u) (ap rows e ∙ sym (face-rows tc tk clearance (sideOf f) (faceOf f))) r

@@ -1,8 +1,8 @@
 -- A side of a cell and a face by numbers, as the code has them, and the steps in a face row by row of the table.
-use Prim.Native.Nat.{ℕ, zero, suc, _+_, _*_, _/_, _^_, _≤_, _<_}
+use Prim.Native.Nat.{ℕ, zero, suc, _+_, _-_, _*_, _/_, _%_, _^_, _≤_, _<_}
 use mathlib.Core.Path.{_≡_}
 use mathlib.Core.Logic.{_⊎_}
-use mathlib.Core.Bool.{Bool, true, false, cond}
+use mathlib.Core.Bool.{Bool, true, false, not, cond}
 use mathlib.Core.List.{List, map}
 use lib.Dec.{T, eqb}
 use lib.ListN.{length, getD}
@@ -15,15 +15,27 @@ use Rattle.rules.specs.Steps.{Side, upperSide, lowerSide, Face, face, faceCorne
 use Rattle.rules.specs.Outputs.{rising, accepted, surveyOf}
 use Rattle.octree.proofs.Lawful.{isCell}
 use Rattle.records.specs.Keys.{placesOf}
-use Rattle.cells.specs.Laid.{cellAt}
-use Rattle.edges.specs.Tables.{Wets, Lowest, Numbers}
+use Rattle.cells.specs.Laid.{octantKey, cellAt}
+use Rattle.octants.specs.Octants.{Octants}
+use Rattle.edges.specs.Tables.{Wets, Lowest, Far, Numbers}
 use Rattle.faces.specs.Descent.{placeWith}
 use Rattle.faces.specs.Patterns.{stepFrom, patternOf, stepTo}
+use Rattle.faces.specs.declared.Facet.{Facet}
 
 -- the upper or the lower side on the axis with a number
 abbrev pub sideAt : ℕ → Bool → Side
 sideAt n true = upperSide (axisOf n)
 sideAt n false = lowerSide (axisOf n)
+
+abbrev pub facet : ℕ → Bool → ℕ → ℕ → Facet
+facet axis upper key level = record { axis = axis; upper = upper; key = key; level = level }
+
+-- the side that a facet is on, and the facet as a face
+abbrev pub sideOf : Facet → Side
+sideOf f = sideAt (f .axis) (f .upper)
+
+abbrev pub faceOf : Facet → Face
+faceOf f = face (placeWith (f .key)) (f .level)
 
 -- how much the upper half of an axis adds to the number of a child, or of a corner, of a cell
 abbrev pub octantBit : Axis → ℕ
@@ -35,40 +47,42 @@ octantBit Z = 4
 abbrev pub SideOf : List Cell → Axis → ℕ → Place → Type 0
 SideOf cells a l p = (q : Place) × T (isCell cells l q) × ((p ≡ q) ⊎ (p ≡ move a (2 ^ l) q))
 
--- the place with a key is in the box, and there is room for a face of a level from there on a side
-pub record Room (axis : ℕ) (upper : Bool) (key level : ℕ) : Type 0 where
-  pub axis-less : axis < 3
-  pub level-less : level ≤ 10
-  pub boxed : (a : Axis) → along a (placeWith key) ≤ 1024
-  pub right-room : along (sideAt axis upper .right) (placeWith key) + 2 ^ level ≤ 1024
-  pub up-room : along (sideAt axis upper .up) (placeWith key) + 2 ^ level ≤ 1024
+-- a facet is in the box
+pub record Room (f : Facet) : Type 0 where
+  pub axis-less : f .axis < 3
+  pub level-less : f .level ≤ 10
+  pub boxed : (a : Axis) → along a (placeWith (f .key)) ≤ 1024
+  pub right-room : along (sideOf f .right) (placeWith (f .key)) + 2 ^ f .level ≤ 1024
+  pub up-room : along (sideOf f .up) (placeWith (f .key)) + 2 ^ f .level ≤ 1024
 
--- the face with its lowest corner at the place with a key is a side of a cell
-pub record Faced (tc : List ℕ) (axis key level : ℕ) : Type 0 where
-  pub axis-less : axis < 3
-  pub side : SideOf (cellsOf tc) (axisOf axis) level (placeWith key)
+-- a facet is a side of a cell
+pub record Faced (tc : List ℕ) (f : Facet) : Type 0 where
+  pub axis-less : f .axis < 3
+  pub side : SideOf (cellsOf tc) (axisOf (f .axis)) (f .level) (placeWith (f .key))
 
--- record n is about a cell whose side towards a leaf is that face: it lies across the leaf's upper or lower side
-pub record Across (tc : List ℕ) (axis : ℕ) (upper : Bool) (key level n : ℕ) : Type 0 where
-  pub axis-less : axis < 3
+-- record n is about a cell whose side towards a leaf is that facet: it lies across the leaf's upper or lower side
+pub record Across (tc : List ℕ) (f : Facet) (n : ℕ) : Type 0 where
+  pub axis-less : f .axis < 3
   pub inside : n < length tc / 4
-  pub level-is : cellAt tc n .level ≡ level
-  pub low-is : placeWith key ≡ cond upper (cellAt tc n .low) (move (axisOf axis) (2 ^ level) (cellAt tc n .low))
+  pub level-is : cellAt tc n .level ≡ f .level
+  pub low-is : placeWith (f .key) ≡ cond (f .upper) (cellAt tc n .low) (move (axisOf (f .axis)) (2 ^ f .level) (cellAt tc n .low))
 
 -- what is found across a side of the cell of a level at the place with a key: the record of the split cell of that size, or no record, where
 -- there is none
 pub record FoundAcross (tc : List ℕ) (axis : ℕ) (upper : Bool) (key level n : ℕ) : Type 0 where
   pub split : n < length tc / 4 → (side : ℕ) → placeWith side ≡ sideLow (sideAt axis upper) (cell (placeWith key) level false) →
-      Across tc axis upper side level n
+      Across tc (facet axis upper side level) n
   pub whole : length tc / 4 ≤ n →
       any (splitAcross (sideAt axis upper) (sideLow (sideAt axis upper) (cell (placeWith key) level false)) level) (cellsOf tc) ≡ false
 
 -- the tables in which the corners and points of faces are looked up
-pub record Tables (tc tk : List ℕ) (clearance : Float) (wets lowest numbers : List ℕ) : Type 0 where
+pub record Tables (tc tk : List ℕ) (clearance : Float) (wets lowest far numbers octants : List ℕ) : Type 0 where
   pub passed : accepted tc tk clearance ≡ true
   pub wet : Wets tk clearance wets
   pub low : Lowest tc tk lowest
+  pub end : Far tc tk far
   pub number : Numbers (surveyOf tc tk clearance) numbers
+  pub octant : Octants tc tk octants
 
 -- the tables of corners alone
 pub record Marked (tk : List ℕ) (clearance : Float) (wets : List ℕ) : Type 0 where
@@ -93,19 +107,42 @@ unfoldable pub smallSteps : Survey → Side → Place → ℕ → List Step
 unfolding smallFaces faceSteps
 smallSteps s side p l = collect (faceSteps s side) (smallFaces (s .cells) side p l)
 
+-- and of a facet
+abbrev pub facetSteps : Survey → Facet → List Step
+facetSteps s f = smallSteps s (sideOf f) (placeWith (f .key)) (f .level)
+
 -- the steps on the side of the cell of a level at a place
 abbrev pub sideSteps : Survey → Side → Place → ℕ → List Step
 sideSteps s side p l = smallSteps s side (sideLow side (cell p l false)) l
 
--- edge i of a face is odd
-abbrev pub OddAt : List ℕ → Float → ℕ → Bool → ℕ → ℕ → ℕ → Type 0
-OddAt tk clearance axis upper key level i =
-    let e = faceEdge (sideAt axis upper) (face (placeWith key) level) i in
-    T (odd (wetAt (cornersOf tk) clearance) (e .axis) (e .low) level)
+-- side i of a leaf, in the order of the rules
+abbrev pub sideNumber : ℕ → Side
+sideNumber i = sideAt (i / 2) (eqb (i % 2) 0)
+
+-- edge i of a facet is odd
+abbrev pub OddAt : List ℕ → Float → Facet → ℕ → Type 0
+OddAt tk clearance f i =
+    let e = faceEdge (sideOf f) (faceOf f) i in
+    T (odd (wetAt (cornersOf tk) clearance) (e .axis) (e .low) (f .level))
 
 -- the number of the child next to a side of the cell below it, or of the corner on its own side
 abbrev pub sideBit : ℕ → Bool → ℕ
 sideBit n upper = cond upper (octantBit (axisOf n)) 0
+
+-- how much quarter i of a side adds to the number of a child: the quarters go right, then up
+abbrev pub quarterBit : Side → ℕ → ℕ
+quarterBit s zero = 0
+quarterBit s (suc zero) = octantBit (s .right)
+quarterBit s (suc (suc zero)) = octantBit (s .up)
+quarterBit s (suc (suc (suc i))) = octantBit (s .right) + octantBit (s .up)
+
+-- quarter i of a facet
+unfoldable pub quarterOf : Facet → ℕ → Facet
+quarterOf f i = facet (f .axis) (f .upper) (f .key + octantKey (quarterBit (sideOf f) i) (2 ^ (f .level - 1))) (f .level - 1)
+
+-- the number of the child, of the cell across, of which quarter i of a facet is a side
+abbrev pub childAcross : Facet → ℕ → ℕ
+childAcross f i = sideBit (f .axis) (not (f .upper)) + quarterBit (sideOf f) i
 
 -- the wet pattern of the side of a cell, from the marks of its eight corners
 unfoldable pub ownPattern : List ℕ → ℕ → Bool → ℕ
@@ -121,6 +158,10 @@ unfoldable pub facePattern : Survey → Side → Face → ℕ
 facePattern s side f =
     let w : ℕ → Bool = λ i. s .isWet (faceCorner side f i) in
     patternOf (w 0) (w 1) (w 2) (w 3)
+
+-- a number is the wet pattern of a facet
+abbrev pub Patterned : Survey → Facet → ℕ → Type 0
+Patterned s f pattern = (pattern < 16) × (pattern ≡ facePattern s (sideOf f) (faceOf f))
 
 -- a step in a face from edge to edge, as a step from point to point
 abbrev pub pointStep : Survey → Side → Face → Step → Step

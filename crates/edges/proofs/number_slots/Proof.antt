@@ -10,15 +10,15 @@ use Rattle.edges.proofs.number_slots.Statement.{statement}
 use Rattle.edges.proofs.number_slots.Tie as tie
 
 abbrev Inv-loop : tie.InvT-loop
-Inv-loop cells corners clearance wets lowest numbers₀ slots₀ n₀ slot₀ numbers slots n slot = Numbered (surveyOf cells corners clearance) numbers slots n slot
+Inv-loop cells corners clearance wets lowest far numbers₀ slots₀ n₀ slot₀ numbers slots n slot = Numbered (surveyOf cells corners clearance) numbers slots n slot
 
 abbrev μ-loop : tie.MeasureT-loop
-μ-loop cells corners clearance wets lowest numbers₀ slots₀ n₀ slot₀ numbers slots n slot = 14616 - slot
+μ-loop cells corners clearance wets lowest far numbers₀ slots₀ n₀ slot₀ numbers slots n slot = 14616 - slot
 
 loop-holds : tie.Need-loop-holds Inv-loop μ-loop
 loop-holds c =
-    let s = c .before .before .before .before .before .before in
-    number-none _ _ _ (s .pre .1 .1 .1 .0) (s .pre .1 .1 .1 .1)
+    let s = c .before .before .before .before .before .before .before in
+    number-none _ _ _ (s .pre .1 .1 .1 .1 .0) (s .pre .1 .1 .1 .1 .1)
 
 cast-numbers : tie.Need-cast-numbers Inv-loop μ-loop
 cast-numbers c = search needs
@@ -30,7 +30,10 @@ slice-write-numbers : tie.Need-slice-write-numbers Inv-loop μ-loop
 slice-write-numbers c = search needs
 
 is-crossed-requires : tie.Need-is-crossed-requires Inv-loop μ-loop
-is-crossed-requires c κs = search needs
+is-crossed-requires c κs =
+    let l = c .before .before in
+    let s = l .before .before .before .before .before .before .before .before in
+    (s .pre .0, (s .pre .1 .0, (s .pre .1 .1 .0, (s .pre .1 .1 .1 .0, omega arith))))
 
 enter-requires : tie.Need-enter-requires Inv-loop μ-loop
 enter-requires c κs = search needs
@@ -44,7 +47,7 @@ loop-less c = search needs
 loop-again : tie.Need-loop-again Inv-loop μ-loop
 loop-again c =
     let l = c .before .before .before .before .before .before in
-    let s = l .before .before .before .before .before .before .before in
+    let s = l .before .before .before .before .before .before .before .before in
     number-next (surveyOf (s .args .cells .now) (s .args .corners .now) (s .args .clearance)) _ _ _ _ (l .loop .inv) (omega arith)
     (c .before .before .before .is-crossed .result) (c .before .before .before .is-crossed .ensures) _ (c .before .before .enter .ensures .0) _
     (c .before .before .enter .ensures .1)
@@ -58,7 +61,7 @@ same-length-2 c = search needs
 returns : tie.Need-returns Inv-loop μ-loop
 returns c =
     let l = c .before in
-    let s = l .before .before .before .before .before .before .before in
+    let s = l .before .before .before .before .before .before .before .before in
     let tc = s .args .cells .now in
     let tk = s .args .corners .now in
     let v = s .args .clearance in

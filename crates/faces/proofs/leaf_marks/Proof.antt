@@ -58,7 +58,11 @@ returns : tie.Need-returns
 returns c =
     let s = c .before .before .before .before .before .before .before .before .before .before .before .before .before .before .before .before in
     eight-marks (λ k. bit (wet (s .args .clearance) k)) _ (s .args .t1 .corners) (s .pre) _ _ _ _ _ _ _ _
-    (c .before .before .before .before .before .before .before .before .before .before .before .before .before .before .mark .ensures) (c .before .before .before .before .before .before .before .before .before .before .before .before .mark2 .ensures) (c .before .before .before .before .before .before .before .before .before .before .mark3 .ensures) (c .before .before .before .before .before .before .before .before .mark4 .ensures) (c .before .before .before .before .before .before .mark5 .ensures) (c .before .before .before .before .mark6 .ensures) (c .before .before .mark7 .ensures) (c .mark8 .ensures)
+    (c .before .before .before .before .before .before .before .before .before .before .before .before .before .before .mark .ensures)
+    (c .before .before .before .before .before .before .before .before .before .before .before .before .mark2 .ensures)
+    (c .before .before .before .before .before .before .before .before .before .before .mark3 .ensures)
+    (c .before .before .before .before .before .before .before .before .mark4 .ensures) (c .before .before .before .before .before .before .mark5 .ensures)
+    (c .before .before .before .before .mark6 .ensures) (c .before .before .mark7 .ensures) (c .mark8 .ensures)
 
 pub leaf-marks-spec : {M : Type 1} → statement M
 leaf-marks-spec =

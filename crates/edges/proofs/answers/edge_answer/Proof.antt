@@ -1,24 +1,92 @@
--- `edges::answers::edge_answer` meets its contract: by cases: no cell has the edge, it is odd, it is even.
-use Rattle.edges.proofs.Enquiring.{key-is, answer-none, answer-even, answer-crossing, number-is, number-inside, slot-carries, edge-shallow, upper-listed}
-use Rattle.edges.proofs.TwinSlots.{slot-inside, slot-crossed, points-few, points-slots}
-use Rattle.edges.proofs.Descent.{odd-level}
-use Rattle.edges.proofs.Readings.{corners, edges-law}
-use Rattle.edges.specs.Tables.{OddEdge}
-use Rattle.places.specs.Places.{asSpot}
-use Rattle.rules.specs.Survey.{wetAt}
-use Rattle.rules.specs.Edges.{isEdge, odd, numberOf, carrier, spotOn}
-use Rattle.rules.specs.Outputs.{surveyOf}
-use Rattle.rules.specs.Survey.{cellsOf, cornersOf}
-use Rattle.base.proofs.Tests.{→true}
-use Rattle.base.specs.Grid.{Place, axisOf}
-use lib.ListN.{length}
-use lib.Dec.{T}
+-- `edges::answers::edge_answer` meets its contract: by cases: no cell has the edge, it is even, it is odd.
 use Prim.Native.Nat.{ℕ, _<_, _/_}
-use mathlib.Core.Path.{_≡_, refl, sym, ap, _∙_, subst}
+use mathlib.Core.Path.{_≡_, sym, ap, _∙_, subst}
+use mathlib.Core.Bool.{Bool, true, false, not}
 use native.Mathlib.Omega.{arith}
+use lib.Dec.{T, eqb}
+use lib.ListN.{length, getD}
+use borrow.Author.Tests.{eq-eqb, ne-eqb}
+use Rattle.base.specs.Grid.{Place, axisOf}
+use Rattle.base.proofs.Tests.{→true}
+use Rattle.rules.specs.Survey.{cellsOf, cornersOf, wetAt}
+use Rattle.rules.specs.Edges.{isEdge, odd, spotOn}
+use Rattle.rules.specs.Outputs.{surveyOf}
+use Rattle.places.specs.Places.{asSpot}
+use Rattle.records.specs.Keys.{placesOf}
+use Rattle.edges.specs.Tables.{placeAt, OddEdge, Sought, CarrierSlot}
+use Rattle.edges.proofs.Descent.{slot-numbers}
+use Rattle.edges.proofs.Enquiring.{key-is, answer-none, answer-even, answer-crossing}
+use Rattle.edges.proofs.Numbering.{below-le}
+use Rattle.edges.proofs.Readings.{corners, no-refusal, odd-read}
 use borrow.Author.Needs.{needs}
 use Rattle.edges.proofs.answers.edge_answer.Statement.{statement}
 use Rattle.edges.proofs.answers.edge_answer.Tie as tie
+
+abbrev start : tie.After-edge-record → tie.Start
+start f = f .before .before .before .before .before .before .before
+
+abbrev place : tie.After-edge-record → Place
+place f = record { x = start f .args .x; y = start f .args .y; z = start f .args .z }
+
+sought : (f : tie.After-edge-record) →
+    Sought (start f .args .cells .now) (start f .args .corners .now) (axisOf (start f .args .axis)) (place f) (start f .args .level) (f .edge-record .result)
+sought f =
+    let s = start f in
+    f .edge-record .ensures (place f) (record { x-fits = omega (arith, s .fits .x); y-fits = omega (arith, s .fits .y) }) (key-is (s .args .x) (s .args .y) (s .args .z))
+
+-- the edge is there
+module _ (c : tie.Else1) where
+  abbrev f : tie.After-edge-record
+  f = c .before
+
+  inside : c .before .edge-record .result < length (start (c .before) .args .corners .now) / 10
+  inside = omega arith
+
+  here : T (isEdge (cellsOf (start (c .before) .args .cells .now)) (axisOf (start (c .before) .args .axis)) (place (c .before)) (start (c .before) .args .level)) ×
+      (placeAt (placesOf (start (c .before) .args .corners .now)) (c .before .edge-record .result) ≡ place (c .before))
+  here = sought f .found inside
+
+  is-edge : T (isEdge (cellsOf (start (c .before) .args .cells .now)) (axisOf (start (c .before) .args .axis))
+      (placeAt (placesOf (start (c .before) .args .corners .now)) (c .before .edge-record .result)) (start (c .before) .args .level))
+  is-edge = subst (λ q. T (isEdge (cellsOf (start f .args .cells .now)) (axisOf (start f .args .axis)) q (start f .args .level))) (sym (here .1)) (here .0)
+
+abbrev found : tie.After-upper-end → tie.After-edge-record
+found u = u .before .before
+
+-- its parity, by the marks at its ends
+parity : (u : tie.After-upper-end) (b : Bool) →
+    not (eqb (getD (start (found u) .args .wets .now) (found u .edge-record .result) 0) (getD (start (found u) .args .wets .now) (u .upper-end .result) 0)) ≡ b →
+    odd (wetAt (cornersOf (start (found u) .args .corners .now)) (start (found u) .args .clearance)) (axisOf (start (found u) .args .axis))
+    (placeAt (placesOf (start (found u) .args .corners .now)) (found u .edge-record .result)) (start (found u) .args .level) ≡ b
+parity u b d =
+    let s = start (found u) in
+    sym (odd-read (s .args .corners .now) (s .args .clearance) (s .args .wets .now) (s .pre .1 .0) (axisOf (s .args .axis)) _ _ (s .args .level)
+    (inside (u .before)) (u .upper-end .ensures)) ∙ d
+
+parity-at : (u : tie.After-upper-end) (b : Bool) →
+    odd (wetAt (cornersOf (start (found u) .args .corners .now)) (start (found u) .args .clearance)) (axisOf (start (found u) .args .axis))
+    (placeAt (placesOf (start (found u) .args .corners .now)) (found u .edge-record .result)) (start (found u) .args .level) ≡ b →
+    odd (wetAt (cornersOf (start (found u) .args .corners .now)) (start (found u) .args .clearance)) (axisOf (start (found u) .args .axis)) (place (found u))
+    (start (found u) .args .level) ≡ b
+parity-at u b e =
+    let s = start (found u) in
+    ap (λ q. odd (wetAt (cornersOf (s .args .corners .now)) (s .args .clearance)) (axisOf (s .args .axis)) q (s .args .level)) (sym (here (u .before) .1)) ∙ e
+
+abbrev ended : tie.Else2 → tie.After-upper-end
+ended c = c .before .before .before
+
+abbrev entry : tie.Else2 → tie.Start
+entry c = start (found (ended c))
+
+is-odd : (c : tie.Else2) →
+    odd (wetAt (cornersOf (entry c .args .corners .now)) (entry c .args .clearance)) (axisOf (entry c .args .axis))
+    (placeAt (placesOf (entry c .args .corners .now)) (found (ended c) .edge-record .result)) (entry c .args .level) ≡ true
+is-odd c = parity (ended c) true (ap not (ne-eqb _ _ (c .if2 .left)))
+
+odd-edge : (c : tie.Else2) →
+    OddEdge (entry c .args .cells .now) (entry c .args .corners .now) (entry c .args .clearance) (axisOf (entry c .args .axis)) (found (ended c) .edge-record .result)
+    (entry c .args .level)
+odd-edge c = record { inside = inside (ended c .before); is-edge = is-edge (ended c .before); is-odd = →true (is-odd c) }
 
 mul-key : tie.Need-mul-key
 mul-key c = search needs
@@ -37,189 +105,79 @@ edge-record-requires c κs = search needs
 
 returns : tie.Need-returns
 returns c =
-    let f = c .before in
-    let s = f .before .before .before .before .before .before .before .before in
-    let tc = s .args .cells .now in
-    let tk = s .args .corners .now in
-    let x = s .args .clearance in
-    let a = axisOf (s .args .axis) in
-    let p : Place = record { x = s .args .x; y = s .args .y; z = s .args .z } in
-    let l = s .args .level in
-    let k = f .edge-record .result in
-    let low = s .pre .1 .1 .0 in
-    let g = f .edge-record .ensures p (record { x-fits = omega arith; y-fits = omega arith }) (key-is (s .args .x) (s .args .y) (s .args .z)) in
-    answer-none tc tk x a p l (g .none (omega arith))
+    let s = start (c .before) in
+    answer-none (s .args .cells .now) (s .args .corners .now) (s .args .clearance) (axisOf (s .args .axis)) (place (c .before)) (s .args .level)
+    (sought (c .before) .none (omega arith))
 
-is-odd-requires : tie.Need-is-odd-requires
-is-odd-requires c κs =
-    let f = c .before in
-    let s = f .before .before .before .before .before .before .before .before in
-    let tc = s .args .cells .now in
-    let tk = s .args .corners .now in
-    let x = s .args .clearance in
-    let a = axisOf (s .args .axis) in
-    let p : Place = record { x = s .args .x; y = s .args .y; z = s .args .z } in
-    let l = s .args .level in
-    let k = f .edge-record .result in
-    let low = s .pre .1 .1 .0 in
-    let g = f .edge-record .ensures p (record { x-fits = omega arith; y-fits = omega arith }) (key-is (s .args .x) (s .args .y) (s .args .z)) in
-    let h : k < length tk / 10 = omega arith in
-    let e = g .found h in
-    let t = subst (λ q. T (isEdge (cellsOf tc) a q l)) (sym (e .1)) (e .0) in
-    (corners tc tk x (s .pre .0), (s .pre .1 .0, (h, edge-shallow tc tk x (s .pre .0) a _ l t, upper-listed tc tk x (s .pre .0) a _ l t)))
-
-point-of-requires : tie.Need-point-of-requires
-point-of-requires c κs =
-    let f = c .before .before .before in
-    let s = f .before .before .before .before .before .before .before .before in
-    let tc = s .args .cells .now in
-    let tk = s .args .corners .now in
-    let x = s .args .clearance in
-    let a = axisOf (s .args .axis) in
-    let p : Place = record { x = s .args .x; y = s .args .y; z = s .args .z } in
-    let l = s .args .level in
-    let k = f .edge-record .result in
-    let low = s .pre .1 .1 .0 in
-    let g = f .edge-record .ensures p (record { x-fits = omega arith; y-fits = omega arith }) (key-is (s .args .x) (s .args .y) (s .args .z)) in
-    let h : k < length tk / 10 = omega arith in
-    let e = g .found h in
-    let t = subst (λ q. T (isEdge (cellsOf tc) a q l)) (sym (e .1)) (e .0) in
-    let u = sym (c .before .is-odd .ensures) ∙ c .if2 .taken in
-    let o : OddEdge tc tk x a k l = record { inside = h; is-edge = t; is-odd = →true u } in
-    (s .pre .0, (s .pre .1 .0, (low, (s .pre .1 .1 .1 .1 .0, (s .pre .1 .1 .1 .1 .1 .1, o)))))
-
-cast-slot-point : tie.Need-cast-slot-point
-cast-slot-point c = search needs
-
-mul-slot-point : tie.Need-mul-slot-point
-mul-slot-point c = search needs
-
-shared-slice-read-slot-point : tie.Need-shared-slice-read-slot-point
-shared-slice-read-slot-point c =
-    let f = c .before .before .before .before .before in
-    let s = f .before .before .before .before .before .before .before .before in
-    let tc = s .args .cells .now in
-    let tk = s .args .corners .now in
-    let x = s .args .clearance in
-    let a = axisOf (s .args .axis) in
-    let p : Place = record { x = s .args .x; y = s .args .y; z = s .args .z } in
-    let l = s .args .level in
-    let k = f .edge-record .result in
-    let low = s .pre .1 .1 .0 in
-    let g = f .edge-record .ensures p (record { x-fits = omega arith; y-fits = omega arith }) (key-is (s .args .x) (s .args .y) (s .args .z)) in
-    let h : k < length tk / 10 = omega arith in
-    let e = g .found h in
-    let t = subst (λ q. T (isEdge (cellsOf tc) a q l)) (sym (e .1)) (e .0) in
-    let u = sym (c .before .before .before .is-odd .ensures) ∙ c .before .before .if2 .taken in
-    let o : OddEdge tc tk x a k l = record { inside = h; is-edge = t; is-odd = →true u } in
-    let n = c .before .point-of .result in
-    let at = s .pre .1 .1 .1 .1 .1 .0 in
-    let v = number-inside tc tk x (s .pre .0) (s .args .lowest .now) low a k l o n (c .before .point-of .ensures) in
-    omega (arith, points-few tc tk x (s .pre .0) (s .args .lowest .now) low, points-slots tc tk x (s .pre .0) (s .args .lowest .now) low, at .size)
-
-cast-slot-point-2 : tie.Need-cast-slot-point-2
-cast-slot-point-2 c =
-    let f = c .before .before .before .before .before in
-    let s = f .before .before .before .before .before .before .before .before in
-    let tc = s .args .cells .now in
-    let tk = s .args .corners .now in
-    let x = s .args .clearance in
-    let a = axisOf (s .args .axis) in
-    let p : Place = record { x = s .args .x; y = s .args .y; z = s .args .z } in
-    let l = s .args .level in
-    let k = f .edge-record .result in
-    let low = s .pre .1 .1 .0 in
-    let g = f .edge-record .ensures p (record { x-fits = omega arith; y-fits = omega arith }) (key-is (s .args .x) (s .args .y) (s .args .z)) in
-    let h : k < length tk / 10 = omega arith in
-    let e = g .found h in
-    let t = subst (λ q. T (isEdge (cellsOf tc) a q l)) (sym (e .1)) (e .0) in
-    let u = sym (c .before .before .before .is-odd .ensures) ∙ c .before .before .if2 .taken in
-    let o : OddEdge tc tk x a k l = record { inside = h; is-edge = t; is-odd = →true u } in
-    let n = c .before .point-of .result in
-    let at = s .pre .1 .1 .1 .1 .1 .0 in
-    let v = number-inside tc tk x (s .pre .0) (s .args .lowest .now) low a k l o n (c .before .point-of .ensures) in
-    omega (arith, slot-inside tc tk x (s .pre .0) (s .args .lowest .now) low (s .args .slots .now) at n v)
-
-slot-point-requires : tie.Need-slot-point-requires
-slot-point-requires c κs =
-    let f = c .before .before .before .before .before in
-    let s = f .before .before .before .before .before .before .before .before in
-    let tc = s .args .cells .now in
-    let tk = s .args .corners .now in
-    let x = s .args .clearance in
-    let a = axisOf (s .args .axis) in
-    let p : Place = record { x = s .args .x; y = s .args .y; z = s .args .z } in
-    let l = s .args .level in
-    let k = f .edge-record .result in
-    let low = s .pre .1 .1 .0 in
-    let g = f .edge-record .ensures p (record { x-fits = omega arith; y-fits = omega arith }) (key-is (s .args .x) (s .args .y) (s .args .z)) in
-    let h : k < length tk / 10 = omega arith in
-    let e = g .found h in
-    let t = subst (λ q. T (isEdge (cellsOf tc) a q l)) (sym (e .1)) (e .0) in
-    let u = sym (c .before .before .before .is-odd .ensures) ∙ c .before .before .if2 .taken in
-    let o : OddEdge tc tk x a k l = record { inside = h; is-edge = t; is-odd = →true u } in
-    let n = c .before .point-of .result in
-    let at = s .pre .1 .1 .1 .1 .1 .0 in
-    let v = number-inside tc tk x (s .pre .0) (s .args .lowest .now) low a k l o n (c .before .point-of .ensures) in (
-      s .pre .0,
-      (
-        low,
-        (
-          slot-inside tc tk x (s .pre .0) (s .args .lowest .now) low (s .args .slots .now) at n v,
-          slot-crossed tc tk x (s .pre .0)
-              (s .args .lowest .now) low (s .args .slots .now) at n v,
-        ),
-      ),
+upper-end-requires : tie.Need-upper-end-requires
+upper-end-requires c κs =
+    let s = start (c .before) in (
+      no-refusal (s .args .cells .now) (s .args .corners .now) (s .args .clearance) (s .pre .0),
+      (s .pre .1 .1 .0, (s .pre .1 .1 .1 .1 .0, (s .pre .1 .1 .1 .1 .1, inside c, is-edge c))),
     )
 
-cast-t33 : tie.Need-cast-t33
-cast-t33 c = search needs
+shared-slice-read-if2 : tie.Need-shared-slice-read-if2
+shared-slice-read-if2 c =
+    let s = start (c .before .before .before) in
+    omega (arith, s .pre .1 .0 .size, corners (s .args .cells .now) (s .args .corners .now) (s .args .clearance) (s .pre .0) .few)
+
+shared-slice-read-if2-2 : tie.Need-shared-slice-read-if2-2
+shared-slice-read-if2-2 c =
+    let u = c .before .before in
+    let s = start (found u) in
+    omega (arith, u .upper-end .ensures .inside, s .pre .1 .0 .size, corners (s .args .cells .now) (s .args .corners .now) (s .args .clearance) (s .pre .0) .few)
 
 returns-2 : tie.Need-returns-2
 returns-2 c =
-    let f = c .before .before .before .before .before .before in
-    let s = f .before .before .before .before .before .before .before .before in
-    let tc = s .args .cells .now in
-    let tk = s .args .corners .now in
-    let x = s .args .clearance in
-    let a = axisOf (s .args .axis) in
-    let p : Place = record { x = s .args .x; y = s .args .y; z = s .args .z } in
-    let l = s .args .level in
-    let k = f .edge-record .result in
-    let low = s .pre .1 .1 .0 in
-    let g = f .edge-record .ensures p (record { x-fits = omega arith; y-fits = omega arith }) (key-is (s .args .x) (s .args .y) (s .args .z)) in
-    let h : k < length tk / 10 = omega arith in
-    let e = g .found h in
-    let t = subst (λ q. T (isEdge (cellsOf tc) a q l)) (sym (e .1)) (e .0) in
-    let u = sym (c .before .before .before .before .is-odd .ensures) ∙ c .before .before .before .if2 .taken in
-    let o : OddEdge tc tk x a k l = record { inside = h; is-edge = t; is-odd = →true u } in
-    let n = c .before .before .point-of .result in
-    let at = s .pre .1 .1 .1 .1 .1 .0 in
-    let v = number-inside tc tk x (s .pre .0) (s .args .lowest .now) low a k l o n (c .before .before .point-of .ensures) in
-    let w = c .slot-point .ensures ∙ ap (spotOn (cornersOf tk) x) (slot-carries tc tk x (s .pre .0) (s .args .lowest .now) low a k l o n
-    (c .before .before .point-of .ensures) (s .args .slots .now) at) in
-    answer-crossing tc tk x a p l (e .0) (ap (λ q. odd (wetAt (cornersOf tk) x) a q l) (sym (e .1)) ∙ u) n
-    (number-is tc tk x (s .pre .0) (s .args .lowest .now) low a k l o n (c .before .before .point-of .ensures) ∙ ap
-    (λ q. numberOf (surveyOf tc tk x) (carrier (surveyOf tc tk x) a q l)) (e .1)) (asSpot (c .slot-point .result))
-    (w ∙ ap (λ q. spotOn (cornersOf tk) x (carrier (surveyOf tc tk x) a q l)) (e .1))
+    let u = c .before .before .before in
+    let s = start (found u) in
+    answer-even (s .args .cells .now) (s .args .corners .now) (s .args .clearance) (axisOf (s .args .axis)) (place (found u)) (s .args .level)
+    (here (u .before) .0) (parity-at u false (parity u false (ap not (eq-eqb _ _ (c .if2 .taken)))))
+
+carrier-slot-requires : tie.Need-carrier-slot-requires
+carrier-slot-requires c κs =
+    let s = entry c in
+    (s .pre .0, (s .pre .1 .0, (s .pre .1 .1 .0, (s .pre .1 .1 .1 .1 .0, (s .pre .1 .1 .1 .1 .1, odd-edge c)))))
+
+count-crossed-requires : tie.Need-count-crossed-requires
+count-crossed-requires c κs =
+    let s = entry (c .before) in
+    (s .pre .0, (s .pre .1 .0, (s .pre .1 .1 .0, (s .pre .1 .1 .1 .1 .0, c .carrier-slot .ensures .inside))))
+
+cast-n : tie.Need-cast-n
+cast-n c =
+    let slot = c .before .carrier-slot in
+    let s = entry (c .before .before) in
+    omega (
+      arith,
+      c .count-crossed .ensures,
+      below-le (surveyOf (s .args .cells .now) (s .args .corners .now) (s .args .clearance)) (slot .result),
+      slot .ensures .inside,
+    )
+
+slot-point-requires : tie.Need-slot-point-requires
+slot-point-requires c κs =
+    let s = entry (c .before .before) in
+    let carried = c .before .carrier-slot .ensures in
+    (s .pre .0, (s .pre .1 .1 .0, (s .pre .1 .1 .1 .1 .0, (carried .inside, carried .crossed))))
 
 returns-3 : tie.Need-returns-3
 returns-3 c =
-    let f = c .before .before .before in
-    let s = f .before .before .before .before .before .before .before .before in
+    let counted = c .before in
+    let slot = counted .before .carrier-slot in
+    let e = counted .before .before in
+    let s = entry e in
     let tc = s .args .cells .now in
     let tk = s .args .corners .now in
     let x = s .args .clearance in
     let a = axisOf (s .args .axis) in
-    let p : Place = record { x = s .args .x; y = s .args .y; z = s .args .z } in
     let l = s .args .level in
-    let k = f .edge-record .result in
-    let low = s .pre .1 .1 .0 in
-    let g = f .edge-record .ensures p (record { x-fits = omega arith; y-fits = omega arith }) (key-is (s .args .x) (s .args .y) (s .args .z)) in
-    let h : k < length tk / 10 = omega arith in
-    let e = g .found h in
-    let t = subst (λ q. T (isEdge (cellsOf tc) a q l)) (sym (e .1)) (e .0) in
-    answer-even tc tk x a p l (e .0) (ap (λ q. odd (wetAt (cornersOf tk) x) a q l) (sym (e .1)) ∙ sym (c .before .is-odd .ensures) ∙ c .if2 .left)
+    let p = place (found (ended e)) in
+    let at = here (ended e .before) in
+    let carried = subst (λ q. CarrierSlot (surveyOf tc tk x) a q l (slot .result)) (at .1) (slot .ensures) in
+    answer-crossing tc tk x a p l (at .0) (parity-at (ended e) true (is-odd e)) (counted .count-crossed .result)
+    (counted .count-crossed .ensures ∙ slot-numbers tc tk x (s .pre .0) a p l (slot .result) carried) (asSpot (c .slot-point .result))
+    (c .slot-point .ensures ∙ ap (spotOn (cornersOf tk) x) (carried .carries))
 
 pub edge-answer-spec : {M : Type 1} → statement M
 edge-answer-spec =
@@ -231,13 +189,12 @@ edge-answer-spec =
     add-key-2
     edge-record-requires
     returns
-    is-odd-requires
-    point-of-requires
-    cast-slot-point
-    mul-slot-point
-    shared-slice-read-slot-point
-    cast-slot-point-2
-    slot-point-requires
-    cast-t33
+    upper-end-requires
+    shared-slice-read-if2
+    shared-slice-read-if2-2
     returns-2
+    carrier-slot-requires
+    count-crossed-requires
+    cast-n
+    slot-point-requires
     returns-3)

@@ -1,198 +1,109 @@
 -- `edges::pairs::climb` meets its contract: before each turn the edge at hand is odd and the twin of its point is the twin sought; one more level is left than the climb can take.
-use Rattle.edges.proofs.Twins.{Climbed, climb-ends, above-level, above-upper-listed, climb-on, other-edge, climb-turns}
-use Rattle.edges.proofs.Climbing.{above-short}
-use Rattle.edges.proofs.Descent.{odd-level}
-use Rattle.edges.proofs.Readings.{corners}
-use Rattle.edges.specs.Tables.{placeAt}
-use Rattle.records.specs.Keys.{placesOf, recordAt}
-use Rattle.rules.specs.Steps.{above}
-use Rattle.base.specs.Grid.{axisOf}
-use borrow.Author.Tests.{not-true, not-false}
-use mathlib.Core.Bool.{true, false}
-use lib.ListN.{length}
-use Prim.Native.Nat.{ℕ, suc, _+_, _-_, _/_, _<_, _≤_}
-use mathlib.Core.Path.{_≡_, refl, sym, ap, _∙_}
+use Prim.Native.Nat.{ℕ, suc, _+_, _-_, _/_, _≤_, _<_}
+use mathlib.Core.Path.{_≡_, refl, sym, ap, _∙_, subst}
+use mathlib.Core.Bool.{Bool, true, false, not}
 use native.Mathlib.Omega.{arith}
+use lib.Dec.{eqb}
+use lib.ListN.{length, getD}
+use borrow.Author.Tests.{eq-eqb, ne-eqb}
+use Rattle.base.specs.Grid.{axisOf}
+use Rattle.rules.specs.Survey.{cornersOf, wetAt}
+use Rattle.rules.specs.Edges.{odd}
+use Rattle.records.specs.Keys.{placesOf}
+use Rattle.edges.specs.Tables.{placeAt, UpperEnd}
+use Rattle.edges.proofs.Readings.{corners, odd-read}
+use Rattle.edges.proofs.Twins.{Climbed, climb-ends, above-level, climb-on, other-edge, climb-turns}
 use borrow.Author.Needs.{needs}
 use Rattle.edges.proofs.pairs.climb.Statement.{statement}
 use Rattle.edges.proofs.pairs.climb.Tie as tie
 
 abbrev Inv-loop : tie.InvT-loop
-Inv-loop cells corners clearance wets lowest highest numbers axis start bottom v count k₀ level₀ k level = Climbed cells corners clearance (axisOf axis)
-    start bottom k level × (level ≤ 10) × (count ≡ length corners / 10)
+Inv-loop cells corners clearance wets lowest highest far numbers axis start first bottom v count k₀ end₀ level₀ k end level =
+    Climbed cells corners clearance (axisOf axis) start bottom k level × UpperEnd corners (axisOf axis) k level end × (count ≡ length corners / 10)
 
 abbrev μ-loop : tie.MeasureT-loop
-μ-loop cells corners clearance wets lowest highest numbers axis start bottom v count k₀ level₀ k level = 10 - level
+μ-loop cells corners clearance wets lowest highest far numbers axis start first bottom v count k₀ end₀ level₀ k end level = 10 - level
+
+abbrev start : tie.At-loop Inv-loop μ-loop → tie.Start Inv-loop μ-loop
+start l = l .before .before .before .before .before .before .before .before
+
+abbrev entry : tie.After-edge-above Inv-loop μ-loop → tie.Start Inv-loop μ-loop
+entry e = start (e .before)
+
+-- an edge above is there
+abbrev There : tie.After-edge-above Inv-loop μ-loop → Type 0
+There e = e .edge-above .result .start < length (entry e .args .corners .now) / 10
+
+-- the marks at its ends differ
+abbrev differ : tie.After-edge-above Inv-loop μ-loop → Bool
+differ e = not (eqb (getD (entry e .args .wets .now) (e .edge-above .result .start) 0) (getD (entry e .args .wets .now) (e .edge-above .result .end) 0))
+
+module _ (e : tie.After-edge-above Inv-loop μ-loop) where
+  abbrev s : tie.Start Inv-loop μ-loop
+  s = entry e
+
+  ends-inside : There e → (e .edge-above .result .start < 4872) × (e .edge-above .result .end < 4872)
+  ends-inside h =
+      let few = corners (s .args .cells .now) (s .args .corners .now) (s .args .clearance) (s .pre .0) .few in
+      (omega arith, omega (arith, e .edge-above .ensures .upper h .inside))
+
+  level-above : There e → suc (e .before .loop .level) ≤ 10
+  level-above h =
+      above-level (s .args .cells .now) (s .args .corners .now) (s .args .clearance) (s .pre .0) (axisOf (s .args .axis)) (s .args .start) (s .args .bottom) _ _ _ _ _
+      (s .args .v) (e .before .loop .inv .0) (e .edge-above .ensures) h
+
+  parity : There e → (b : Bool) → differ e ≡ b →
+      odd (wetAt (cornersOf (entry e .args .corners .now)) (entry e .args .clearance)) (axisOf (entry e .args .axis))
+      (placeAt (placesOf (entry e .args .corners .now)) (e .edge-above .result .start)) (suc (e .before .loop .level)) ≡ b
+  parity h b d =
+      sym (odd-read (s .args .corners .now) (s .args .clearance) (s .args .wets .now) (s .pre .1 .0) (axisOf (s .args .axis)) _ _ _ h
+      (e .edge-above .ensures .upper h)) ∙ d
 
 loop-holds : tie.Need-loop-holds Inv-loop μ-loop
 loop-holds c =
-    let s = c .before .before .before .before .before .before in
-    let o = s .pre .1 .1 .1 .1 .1 in (
-      record { odd-edge = o .1; left = 10; enough = omega arith; same-twin = refl },
-      odd-level (s .args .cells .now) (s .args .corners .now) (s .args .clearance) (s .pre .0) (s .args .lowest .now) (s .pre .1 .1 .0) (s .args .axis)
-          (o .0) (s .args .start) (s .args .bottom) (o .1),
-      refl,
-    )
+    let s = c .before .before .before .before .before .before .before in
+    let (g, o, u) = s .pre .1 .1 .1 .1 .1 .1 in
+    (record { odd-edge = o; left = 10; enough = omega arith; same-twin = refl }, u, refl)
 
-above-key-requires : tie.Need-above-key-requires Inv-loop μ-loop
-above-key-requires c κs =
-    let l = c in
-    let s = l .before .before .before .before .before .before .before in
-    let tc = s .args .cells .now in
-    let tk = s .args .corners .now in
-    let v = s .args .clearance in
-    let n = s .args .axis in
-    let a = axisOf n in
-    let k = l .loop .k in
-    let m = l .loop .level in
-    let i = l .loop .inv .0 in
-    let g = s .pre .1 .1 .1 .1 .1 .0 in
-    let top = odd-level tc tk v (s .pre .0) (s .args .lowest .now) (s .pre .1 .1 .0) n g k m (i .odd-edge) in
-    (corners tc tk v (s .pre .0), (i .odd-edge .inside, top))
-
-add-edge-record : tie.Need-add-edge-record Inv-loop μ-loop
-add-edge-record c =
-    let l = c .before in
-    let s = l .before .before .before .before .before .before .before in
-    let tc = s .args .cells .now in
-    let tk = s .args .corners .now in
-    let v = s .args .clearance in
-    let n = s .args .axis in
-    let a = axisOf n in
-    let k = l .loop .k in
-    let m = l .loop .level in
-    let i = l .loop .inv .0 in
-    let g = s .pre .1 .1 .1 .1 .1 .0 in
-    let top = odd-level tc tk v (s .pre .0) (s .args .lowest .now) (s .pre .1 .1 .0) n g k m (i .odd-edge) in
-    omega arith
-
-edge-record-requires : tie.Need-edge-record-requires Inv-loop μ-loop
-edge-record-requires c κs =
-    let l = c .before in
-    let s = l .before .before .before .before .before .before .before in
-    let tc = s .args .cells .now in
-    let tk = s .args .corners .now in
-    let v = s .args .clearance in
-    let n = s .args .axis in
-    let a = axisOf n in
-    let k = l .loop .k in
-    let m = l .loop .level in
-    let i = l .loop .inv .0 in
-    let g = s .pre .1 .1 .1 .1 .1 .0 in
-    let top = odd-level tc tk v (s .pre .0) (s .args .lowest .now) (s .pre .1 .1 .0) n g k m (i .odd-edge) in
-    (s .pre .0, (s .pre .1 .1 .0, (s .pre .1 .1 .1 .0, g)))
-
-returns : tie.Need-returns Inv-loop μ-loop
-returns c =
-    let l = c .before .before .before in
-    let s = l .before .before .before .before .before .before .before in
-    let tc = s .args .cells .now in
-    let tk = s .args .corners .now in
-    let v = s .args .clearance in
-    let n = s .args .axis in
-    let a = axisOf n in
-    let k = l .loop .k in
-    let m = l .loop .level in
-    let i = l .loop .inv .0 in
-    let g = s .pre .1 .1 .1 .1 .1 .0 in
-    let top = odd-level tc tk v (s .pre .0) (s .args .lowest .now) (s .pre .1 .1 .0) n g k m (i .odd-edge) in
-    let f = c .before .edge-record .ensures (above a (placeAt (placesOf tk) k) m)
-    (above-short tk (l .before .before .before .before .before .shared-slice-known2 .given) a k m (i .odd-edge .inside))
-    (c .before .before .above-key .ensures) in
-    let q : m + 1 ≡ suc m = omega arith in
-    let up = c .before .edge-record .result in
-    climb-ends tc tk v (s .pre .0) a (s .args .start) (s .args .bottom) k m (m + 1) up (s .args .v) i q f (omega arith)
-
-add-is-odd : tie.Need-add-is-odd Inv-loop μ-loop
-add-is-odd c =
-    let l = c .before .before .before in
-    let s = l .before .before .before .before .before .before .before in
-    let tc = s .args .cells .now in
-    let tk = s .args .corners .now in
-    let v = s .args .clearance in
-    let n = s .args .axis in
-    let a = axisOf n in
-    let k = l .loop .k in
-    let m = l .loop .level in
-    let i = l .loop .inv .0 in
-    let g = s .pre .1 .1 .1 .1 .1 .0 in
-    let top = odd-level tc tk v (s .pre .0) (s .args .lowest .now) (s .pre .1 .1 .0) n g k m (i .odd-edge) in
-    omega arith
-
-is-odd-requires : tie.Need-is-odd-requires Inv-loop μ-loop
-is-odd-requires c κs =
-    let l = c .before .before .before in
-    let s = l .before .before .before .before .before .before .before in
-    let tc = s .args .cells .now in
-    let tk = s .args .corners .now in
-    let v = s .args .clearance in
-    let n = s .args .axis in
-    let a = axisOf n in
-    let k = l .loop .k in
-    let m = l .loop .level in
-    let i = l .loop .inv .0 in
-    let g = s .pre .1 .1 .1 .1 .1 .0 in
-    let top = odd-level tc tk v (s .pre .0) (s .args .lowest .now) (s .pre .1 .1 .0) n g k m (i .odd-edge) in
-    let f = c .before .edge-record .ensures (above a (placeAt (placesOf tk) k) m)
-    (above-short tk (l .before .before .before .before .before .shared-slice-known2 .given) a k m (i .odd-edge .inside))
-    (c .before .before .above-key .ensures) in
-    let q : m + 1 ≡ suc m = omega arith in
-    let up = c .before .edge-record .result in
-    let h : up < length tk / 10 = omega arith in (
-      corners tc tk v (s .pre .0),
+edge-above-requires : tie.Need-edge-above-requires Inv-loop μ-loop
+edge-above-requires c κs =
+    let s = start c in (
+      s .pre .0,
       (
-        s .pre .1 .0,
-        (
-          h,
-          above-level tc tk v (s .pre .0) a (s .args .start) (s .args .bottom) k m (m + 1) up (s .args .v) i q f
-              h,
-          above-upper-listed tc tk v (s .pre .0) a (s .args .start) (s .args .bottom) k m (m + 1) up (s .args .v) i q f h,
-        ),
+        s .pre .1 .1 .0,
+        (s .pre .1 .1 .1 .0, (s .pre .1 .1 .1 .1 .0, (s .pre .1 .1 .1 .1 .1 .1 .0, c .loop .inv .0 .odd-edge, c .loop .inv .1))),
       ),
     )
 
-other-key-requires : tie.Need-other-key-requires Inv-loop μ-loop
-other-key-requires c κs =
-    let l = c .before .before .before .before .before in
-    let s = l .before .before .before .before .before .before .before in
-    let tc = s .args .cells .now in
-    let tk = s .args .corners .now in
-    let v = s .args .clearance in
-    let n = s .args .axis in
-    let a = axisOf n in
-    let k = l .loop .k in
-    let m = l .loop .level in
-    let i = l .loop .inv .0 in
-    let g = s .pre .1 .1 .1 .1 .1 .0 in
-    let top = odd-level tc tk v (s .pre .0) (s .args .lowest .now) (s .pre .1 .1 .0) n g k m (i .odd-edge) in
-    (corners tc tk v (s .pre .0), (i .odd-edge .inside, top))
+returns : tie.Need-returns Inv-loop μ-loop
+returns c =
+    let e = c .before in
+    let s = entry e in
+    climb-ends (s .args .cells .now) (s .args .corners .now) (s .args .clearance) (s .pre .0) (axisOf (s .args .axis)) (s .args .start) (s .args .bottom) _ _ _ _ _
+    (s .args .v) (e .before .loop .inv .0) (e .edge-above .ensures) (omega (arith, e .before .loop .inv .2))
 
-find-requires : tie.Need-find-requires Inv-loop μ-loop
-find-requires c κs =
-    let s = c .before .before .before .before .before .before .before .before .before .before .before .before .before in
-    corners (s .args .cells .now) (s .args .corners .now) (s .args .clearance) (s .pre .0) .rises
+there : (c : tie.Else1 Inv-loop μ-loop) → There (c .before)
+there c = omega (arith, c .before .before .loop .inv .2)
+
+shared-slice-read-if2 : tie.Need-shared-slice-read-if2 Inv-loop μ-loop
+shared-slice-read-if2 c =
+    let e = c .before .before in
+    omega (arith, ends-inside e (there (c .before)) .0, entry e .pre .1 .0 .size)
+
+shared-slice-read-if2-2 : tie.Need-shared-slice-read-if2-2 Inv-loop μ-loop
+shared-slice-read-if2-2 c =
+    let e = c .before .before .before in
+    omega (arith, ends-inside e (there (c .before .before)) .1, entry e .pre .1 .0 .size)
+
+-- the edge above is even
+even : (c : tie.Then2 Inv-loop μ-loop) → differ (c .before .before .before .before) ≡ false
+even c = ap not (eq-eqb _ _ (c .if2 .taken))
 
 point-of-requires : tie.Need-point-of-requires Inv-loop μ-loop
 point-of-requires c κs =
-    let l = c .before .before .before .before .before .before .before in
-    let s = l .before .before .before .before .before .before .before in
-    let tc = s .args .cells .now in
-    let tk = s .args .corners .now in
-    let v = s .args .clearance in
-    let n = s .args .axis in
-    let a = axisOf n in
-    let k = l .loop .k in
-    let m = l .loop .level in
-    let i = l .loop .inv .0 in
-    let g = s .pre .1 .1 .1 .1 .1 .0 in
-    let top = odd-level tc tk v (s .pre .0) (s .args .lowest .now) (s .pre .1 .1 .0) n g k m (i .odd-edge) in
-    let f = c .before .before .before .before .before .edge-record .ensures (above a (placeAt (placesOf tk) k) m)
-    (above-short tk (l .before .before .before .before .before .shared-slice-known2 .given) a k m (i .odd-edge .inside))
-    (c .before .before .before .before .before .before .above-key .ensures) in
-    let q : m + 1 ≡ suc m = omega arith in
-    let up = c .before .before .before .before .before .edge-record .result in
-    let h : up < length tk / 10 = omega arith in
-    let o : c .before .before .before .is-odd .result ≡ false = search (not-true, needs) in (
+    let e = c .before .before .before .before in
+    let s = entry e in
+    let h = there (c .before .before .before) in (
       s .pre .0,
       (
         s .pre .1 .0,
@@ -201,10 +112,12 @@ point-of-requires c κs =
           (
             s .pre .1 .1 .1 .1 .0,
             (
-              g,
-              other-edge tc tk v (s .pre .0) a (s .args .start) (s .args .bottom) k m (m + 1) up (s .args .v) i q f h
-                  (l .before .before .before .before .before .shared-slice-known2 .given) (sym (c .before .before .before .is-odd .ensures) ∙ o)
-                  (c .find .result) (c .find .ensures ∙ ap (recordAt tk) (c .before .other-key .ensures)),
+              s .pre .1 .1 .1 .1 .1 .0,
+              (
+                s .pre .1 .1 .1 .1 .1 .1 .0,
+                other-edge (s .args .cells .now) (s .args .corners .now) (s .args .clearance) (s .pre .0) (axisOf (s .args .axis)) (s .args .start)
+                    (s .args .bottom) _ _ _ _ _ (s .args .v) (e .before .loop .inv .0) (e .edge-above .ensures) h (parity e h false (even c)),
+              ),
             ),
           ),
         ),
@@ -213,91 +126,34 @@ point-of-requires c κs =
 
 returns-2 : tie.Need-returns-2 Inv-loop μ-loop
 returns-2 c =
-    let l = c .before .before .before .before .before .before .before .before in
-    let s = l .before .before .before .before .before .before .before in
-    let tc = s .args .cells .now in
-    let tk = s .args .corners .now in
-    let v = s .args .clearance in
-    let n = s .args .axis in
-    let a = axisOf n in
-    let k = l .loop .k in
-    let m = l .loop .level in
-    let i = l .loop .inv .0 in
-    let g = s .pre .1 .1 .1 .1 .1 .0 in
-    let top = odd-level tc tk v (s .pre .0) (s .args .lowest .now) (s .pre .1 .1 .0) n g k m (i .odd-edge) in
-    let f = c .before .before .before .before .before .before .edge-record .ensures (above a (placeAt (placesOf tk) k) m)
-    (above-short tk (l .before .before .before .before .before .shared-slice-known2 .given) a k m (i .odd-edge .inside))
-    (c .before .before .before .before .before .before .before .above-key .ensures) in
-    let q : m + 1 ≡ suc m = omega arith in
-    let up = c .before .before .before .before .before .before .edge-record .result in
-    let h : up < length tk / 10 = omega arith in
-    let o : c .before .before .before .before .is-odd .result ≡ false = search (not-true, needs) in
-    c .point-of .ensures ∙ climb-turns tc tk v (s .pre .0) a (s .args .start) (s .args .bottom) k m (m + 1) up (s .args .v) i q f h
-    (l .before .before .before .before .before .shared-slice-known2 .given) (sym (c .before .before .before .before .is-odd .ensures) ∙ o)
-    (c .before .find .result) (c .before .find .ensures ∙ ap (recordAt tk) (c .before .before .other-key .ensures))
+    let t = c .before in
+    let e = t .before .before .before .before in
+    let s = entry e in
+    let h = there (t .before .before .before) in
+    c .point-of .ensures ∙ climb-turns (s .args .cells .now) (s .args .corners .now) (s .args .clearance) (s .pre .0) (axisOf (s .args .axis)) (s .args .start)
+    (s .args .bottom) _ _ _ _ _ (s .args .v) (e .before .loop .inv .0) (e .edge-above .ensures) h (parity e h false (even t))
 
 add-level : tie.Need-add-level Inv-loop μ-loop
-add-level c =
-    let l = c .before .before .before .before .before in
-    let s = l .before .before .before .before .before .before .before in
-    let tc = s .args .cells .now in
-    let tk = s .args .corners .now in
-    let v = s .args .clearance in
-    let n = s .args .axis in
-    let a = axisOf n in
-    let k = l .loop .k in
-    let m = l .loop .level in
-    let i = l .loop .inv .0 in
-    let g = s .pre .1 .1 .1 .1 .1 .0 in
-    let top = odd-level tc tk v (s .pre .0) (s .args .lowest .now) (s .pre .1 .1 .0) n g k m (i .odd-edge) in
-    omega arith
+add-level c = omega (arith, level-above (c .before .before .before .before) (there (c .before .before .before)))
 
 loop-less : tie.Need-loop-less Inv-loop μ-loop
-loop-less c =
-    let l = c .before .before .before .before .before in
-    let s = l .before .before .before .before .before .before .before in
-    let tc = s .args .cells .now in
-    let tk = s .args .corners .now in
-    let v = s .args .clearance in
-    let n = s .args .axis in
-    let a = axisOf n in
-    let k = l .loop .k in
-    let m = l .loop .level in
-    let i = l .loop .inv .0 in
-    let g = s .pre .1 .1 .1 .1 .1 .0 in
-    let top = odd-level tc tk v (s .pre .0) (s .args .lowest .now) (s .pre .1 .1 .0) n g k m (i .odd-edge) in
-    let f = c .before .before .before .edge-record .ensures (above a (placeAt (placesOf tk) k) m)
-    (above-short tk (l .before .before .before .before .before .shared-slice-known2 .given) a k m (i .odd-edge .inside))
-    (c .before .before .before .before .above-key .ensures) in
-    let q : m + 1 ≡ suc m = omega arith in
-    let up = c .before .before .before .edge-record .result in
-    let h : up < length tk / 10 = omega arith in
-    omega (arith, above-level tc tk v (s .pre .0) a (s .args .start) (s .args .bottom) k m (m + 1) up (s .args .v) i q f h)
+loop-less c = omega (arith, level-above (c .before .before .before .before) (there (c .before .before .before)))
 
 loop-again : tie.Need-loop-again Inv-loop μ-loop
 loop-again c =
-    let l = c .before .before .before .before .before in
-    let s = l .before .before .before .before .before .before .before in
-    let tc = s .args .cells .now in
+    let e = c .before .before .before .before in
+    let s = entry e in
     let tk = s .args .corners .now in
-    let v = s .args .clearance in
-    let n = s .args .axis in
-    let a = axisOf n in
-    let k = l .loop .k in
-    let m = l .loop .level in
-    let i = l .loop .inv .0 in
-    let g = s .pre .1 .1 .1 .1 .1 .0 in
-    let top = odd-level tc tk v (s .pre .0) (s .args .lowest .now) (s .pre .1 .1 .0) n g k m (i .odd-edge) in
-    let f = c .before .before .before .edge-record .ensures (above a (placeAt (placesOf tk) k) m)
-    (above-short tk (l .before .before .before .before .before .shared-slice-known2 .given) a k m (i .odd-edge .inside))
-    (c .before .before .before .before .above-key .ensures) in
-    let q : m + 1 ≡ suc m = omega arith in
-    let up = c .before .before .before .edge-record .result in
-    let h : up < length tk / 10 = omega arith in
-    let o : c .before .is-odd .result ≡ true = search (not-false, needs) in (
-      climb-on tc tk v (s .pre .0) a (s .args .start) (s .args .bottom) k m (m + 1) up (s .args .v) i q f h (sym (c .before .is-odd .ensures) ∙ o),
-      above-level tc tk v (s .pre .0) a (s .args .start) (s .args .bottom) k m (m + 1) up (s .args .v) i q f h,
-      l .loop .inv .2,
+    let a = axisOf (s .args .axis) in
+    let h = there (c .before .before .before) in
+    let up = e .edge-above .result in
+    let q : suc (e .before .loop .level) ≡ e .before .loop .level + 1 = omega arith in
+    let o = parity e h true (ap not (ne-eqb _ _ (c .if2 .left))) in (
+      subst (λ (j : ℕ). Climbed (s .args .cells .now) tk (s .args .clearance) a (s .args .start) (s .args .bottom) (up .start) j) q
+          (climb-on (s .args .cells .now) tk (s .args .clearance) (s .pre .0) a (s .args .start) (s .args .bottom) _ _ _ _ _ (s .args .v)
+          (e .before .loop .inv .0) (e .edge-above .ensures) h o),
+      subst (λ (j : ℕ). UpperEnd tk a (up .start) j (up .end)) q (e .edge-above .ensures .upper h),
+      e .before .loop .inv .2,
     )
 
 pub climb-spec : {M : Type 1} → statement M
@@ -307,14 +163,10 @@ climb-spec =
     Inv-loop
     μ-loop
     loop-holds
-    above-key-requires
-    add-edge-record
-    edge-record-requires
+    edge-above-requires
     returns
-    add-is-odd
-    is-odd-requires
-    other-key-requires
-    find-requires
+    shared-slice-read-if2
+    shared-slice-read-if2-2
     point-of-requires
     returns-2
     add-level
