@@ -4,7 +4,8 @@ ghost use mathlib.Core.Bool.{true};
 ghost use Prim.Native.Nat.{_+_, _*_, _/_, _<_};
 ghost use Rattle.base.specs.Grid.{axisOf};
 ghost use Rattle.rules.specs.Outputs.{accepted};
-ghost use Rattle.edges.specs.Tables.{Lowest, Highest, Far, Wets};
+ghost use Rattle.octants.specs.Octants.{Octants};
+ghost use Rattle.edges.specs.Tables.{CellLevels, Lowest, Highest, Far, Wets};
 ghost use Rattle.rules.specs.Outputs.{enquiry};
 ghost use Rattle.edges.specs.Enquiry.{edgeAnswer};
 use super::ends;
@@ -49,11 +50,13 @@ pub fn edge_answer(
     Answer::Found(Edge::Crossing(n, p.x, p.y, p.z))
 }
 
-// The enquiry of an accepted survey: the tables, and the answer from them.
+// The enquiry of an accepted survey: the tables of its edges, and the answer from them.
 pub fn enquire_accepted(
     cells: &[u8],
     corners: &[u8],
     clearance: f32,
+    levels: &[u8],
+    octants: &[u16],
     axis: u32,
     x: u16,
     y: u16,
@@ -61,23 +64,20 @@ pub fn enquire_accepted(
     level: u8,
 ) -> Answer
     requires { ⌜ accepted (now cells) (now corners) clearance ≡ true ⌝ }
+    requires { ⌜ CellLevels (now cells) (now levels) ⌝ }
+    requires { ⌜ Octants (now cells) (now corners) (now octants) ⌝ }
     requires { ⌜ axis < 3 ⌝ }
     ensures { λ r. ⌜ r ≡ edgeAnswer (now (cells .entry)) (now (corners .entry)) clearance (axisOf axis) (record { x = x; y = y; z = z }) level ⌝ }
 {
-    let mut keys = [0u64; 2049];
-    let mut levels = [0u8; 2049];
     let mut lowest = [11u8; 14616];
     let mut highest = [0u8; 14616];
     let mut far = [0u16; 14616];
-    let mut octants = [0u16; 16392];
     let mut wets = [0u8; 4872];
-    let deep = cells::lay_out(cells, cells.len() / 4, &mut keys, &mut levels);
-    octants::fill(cells, corners, &keys, &levels, &mut octants);
     crate::fill_levels(
         cells,
         corners,
-        &octants,
-        &levels,
+        octants,
+        levels,
         &mut lowest,
         &mut highest,
         &mut far,

@@ -395,7 +395,17 @@ pub fn enquire(
 ) -> Answer
     ensures { λ r. ⌜ r ≡ enquiry (now (cells .entry)) (now (corners .entry)) clearance axis (record { x = x; y = y; z = z }) size ⌝ }
 {
-    let number = checks::refusal(cells, corners, clearance);
+    let mut keys = [0u64; 2049];
+    let mut levels = [0u8; 2049];
+    let mut octants = [0u16; 16392];
+    let number = checks::refusal(
+        cells,
+        corners,
+        clearance,
+        &mut keys,
+        &mut levels,
+        &mut octants,
+    );
     if number != 0 {
         return Answer::Refused(number);
     }
@@ -415,6 +425,8 @@ pub fn enquire(
         cells,
         corners,
         clearance,
+        &levels,
+        &octants,
         axis,
         x as u16,
         y as u16,

@@ -76,8 +76,30 @@ fn face_step(
     if j >= 4 {
         return;
     }
-    let from = face_point(cells, corners, clearance, wets, lowest, far, numbers, octants, facet, i);
-    let to = face_point(cells, corners, clearance, wets, lowest, far, numbers, octants, facet, j);
+    let from = face_point(
+        cells,
+        corners,
+        clearance,
+        wets,
+        lowest,
+        far,
+        numbers,
+        octants,
+        facet,
+        i,
+    );
+    let to = face_point(
+        cells,
+        corners,
+        clearance,
+        wets,
+        lowest,
+        far,
+        numbers,
+        octants,
+        facet,
+        j,
+    );
     trace::record_step(nexts, marks, blocks, from, to);
 }
 

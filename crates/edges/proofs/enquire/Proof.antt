@@ -1,5 +1,7 @@
 -- `edges::enquire` meets its contract: the refusals in their order; no edge starts outside the box; then the answer from the tables.
 use Rattle.edges.proofs.Enquiring.{far-off, enquiry-refused, is-accepted, axis-refused, edge-refused, enquiry-answer}
+use Rattle.edges.proofs.Surveyed.{cells-few}
+use Rattle.edges.proofs.Readings.{no-refusal}
 use Rattle.edges.specs.Enquiry.{edgeAnswer}
 use Rattle.rules.specs.Outputs.{levelOf}
 use Rattle.base.specs.Grid.{Place, X, Y, Z, axisOf}
@@ -9,70 +11,92 @@ use borrow.Author.Needs.{needs}
 use Rattle.edges.proofs.enquire.Statement.{statement}
 use Rattle.edges.proofs.enquire.Tie as tie
 
+abbrev entry : tie.After-refusal → tie.Start
+entry c = c .before .before .before .before .before .before
+
+slice-aggregate-refusal : tie.Need-slice-aggregate-refusal
+slice-aggregate-refusal c = search needs
+
+slice-aggregate-refusal-2 : tie.Need-slice-aggregate-refusal-2
+slice-aggregate-refusal-2 c = search needs
+
+slice-aggregate-refusal-3 : tie.Need-slice-aggregate-refusal-3
+slice-aggregate-refusal-3 c = search needs
+
 refusal-requires : tie.Need-refusal-requires
 refusal-requires c κs = search needs
 
 returns : tie.Need-returns
 returns c =
-    let s = c .before .before .before .before in
+    let r = c .before .before .before .before in
+    let s = entry r in
     let tc = s .args .cells .now in
     let tk = s .args .corners .now in
     let x = s .args .clearance in
     let n = s .args .axis in
     let p : Place = record { x = s .args .x; y = s .args .y; z = s .args .z } in
-    let f = c .before .refusal in
-    enquiry-refused tc tk x n p (s .args .size) (f .result) (f .ensures) (c .if1 .taken)
+    let e = r .refusal .ensures .0 in
+    enquiry-refused tc tk x n p (s .args .size) (r .refusal .result) e (c .if1 .taken)
 
 returns-2 : tie.Need-returns-2
 returns-2 c =
-    let s = c .before .before .before .before .before in
+    let r = c .before .before .before .before .before in
+    let s = entry r in
     let tc = s .args .cells .now in
     let tk = s .args .corners .now in
     let x = s .args .clearance in
     let n = s .args .axis in
     let p : Place = record { x = s .args .x; y = s .args .y; z = s .args .z } in
-    let f = c .before .before .refusal in
-    let z = c .before .if1 .left in
-    axis-refused tc tk x n p (s .args .size) (f .result) (f .ensures) z (omega arith)
+    let e = r .refusal .ensures .0 in
+    axis-refused tc tk x n p (s .args .size) (r .refusal .result) e (c .before .if1 .left) (omega arith)
 
 returns-3 : tie.Need-returns-3
 returns-3 c =
-    let s = c .before .before .before .before .before .before in
+    let r = c .before .before .before .before .before .before in
+    let s = entry r in
     let tc = s .args .cells .now in
     let tk = s .args .corners .now in
     let x = s .args .clearance in
     let n = s .args .axis in
     let p : Place = record { x = s .args .x; y = s .args .y; z = s .args .z } in
-    let f = c .before .before .before .refusal in
+    let e = r .refusal .ensures .0 in
     let z = c .before .before .if1 .left in
-    edge-refused tc tk x n p (s .args .size) (f .result) (f .ensures) z (omega arith)
-    (far-off tc tk x (is-accepted tc tk x n p (s .args .size) (f .result) (f .ensures) z) (axisOf n) X p (levelOf (s .args .size)) (c .if3 .taken))
+    edge-refused tc tk x n p (s .args .size) (r .refusal .result) e z (omega arith)
+    (far-off tc tk x (is-accepted tc tk x n p (s .args .size) (r .refusal .result) e z) (axisOf n) X p (levelOf (s .args .size)) (c .if3 .taken))
 
 returns-4 : tie.Need-returns-4
 returns-4 c =
-    let s = c .before .before .before .before .before .before .before in
+    let r = c .before .before .before .before .before .before .before in
+    let s = entry r in
     let tc = s .args .cells .now in
     let tk = s .args .corners .now in
     let x = s .args .clearance in
     let n = s .args .axis in
     let p : Place = record { x = s .args .x; y = s .args .y; z = s .args .z } in
-    let f = c .before .before .before .before .refusal in
+    let e = r .refusal .ensures .0 in
     let z = c .before .before .before .if1 .left in
-    edge-refused tc tk x n p (s .args .size) (f .result) (f .ensures) z (omega arith)
-    (far-off tc tk x (is-accepted tc tk x n p (s .args .size) (f .result) (f .ensures) z) (axisOf n) Y p (levelOf (s .args .size)) (c .if4 .taken))
+    edge-refused tc tk x n p (s .args .size) (r .refusal .result) e z (omega arith)
+    (far-off tc tk x (is-accepted tc tk x n p (s .args .size) (r .refusal .result) e z) (axisOf n) Y p (levelOf (s .args .size)) (c .if4 .taken))
 
 returns-5 : tie.Need-returns-5
 returns-5 c =
-    let s = c .before .before .before .before .before .before .before .before in
+    let r = c .before .before .before .before .before .before .before .before in
+    let s = entry r in
     let tc = s .args .cells .now in
     let tk = s .args .corners .now in
     let x = s .args .clearance in
     let n = s .args .axis in
     let p : Place = record { x = s .args .x; y = s .args .y; z = s .args .z } in
-    let f = c .before .before .before .before .before .refusal in
+    let e = r .refusal .ensures .0 in
     let z = c .before .before .before .before .if1 .left in
-    edge-refused tc tk x n p (s .args .size) (f .result) (f .ensures) z (omega arith)
-    (far-off tc tk x (is-accepted tc tk x n p (s .args .size) (f .result) (f .ensures) z) (axisOf n) Z p (levelOf (s .args .size)) (c .if5 .taken))
+    edge-refused tc tk x n p (s .args .size) (r .refusal .result) e z (omega arith)
+    (far-off tc tk x (is-accepted tc tk x n p (s .args .size) (r .refusal .result) e z) (axisOf n) Z p (levelOf (s .args .size)) (c .if5 .taken))
+
+slice-aggregate-enquire-accepted : tie.Need-slice-aggregate-enquire-accepted
+slice-aggregate-enquire-accepted c = search needs
+
+slice-aggregate-enquire-accepted-2 : tie.Need-slice-aggregate-enquire-accepted-2
+slice-aggregate-enquire-accepted-2 c = search needs
 
 cast-enquire-accepted : tie.Need-cast-enquire-accepted
 cast-enquire-accepted c = search needs
@@ -88,39 +112,53 @@ level-of-requires c κs = search needs
 
 enquire-accepted-requires : tie.Need-enquire-accepted-requires
 enquire-accepted-requires c κs =
-    let s = c .before .before .before .before .before .before .before .before .before in
+    let r = c .before .before .before .before .before .before .before .before .before .before .before in
+    let s = entry r in
     let tc = s .args .cells .now in
     let tk = s .args .corners .now in
     let x = s .args .clearance in
     let n = s .args .axis in
     let p : Place = record { x = s .args .x; y = s .args .y; z = s .args .z } in
-    let f = c .before .before .before .before .before .before .refusal in
-    let z = c .before .before .before .before .before .if1 .left in
-    (is-accepted tc tk x n p (s .args .size) (f .result) (f .ensures) z, omega arith)
+    let e = r .refusal .ensures .0 in
+    let z = c .before .before .before .before .before .before .before .if1 .left in
+    let passed = is-accepted tc tk x n p (s .args .size) (r .refusal .result) e z in
+    let few = cells-few tc tk (no-refusal tc tk x passed) in
+    let laid = r .refusal .ensures .1 .0 z in (
+      passed,
+      (
+        record { room = search (needs, few); level = λ i h. laid .entered i h .level },
+        (r .refusal .ensures .1 .1 z, omega arith),
+      ),
+    )
 
 returns-6 : tie.Need-returns-6
 returns-6 c =
-    let s = c .before .before .before .before .before .before .before .before .before .before in
+    let r = c .before .before .before .before .before .before .before .before .before .before .before .before in
+    let s = entry r in
     let tc = s .args .cells .now in
     let tk = s .args .corners .now in
     let x = s .args .clearance in
     let n = s .args .axis in
     let p : Place = record { x = s .args .x; y = s .args .y; z = s .args .z } in
-    let f = c .before .before .before .before .before .before .before .refusal in
-    let z = c .before .before .before .before .before .before .if1 .left in
-    c .enquire-accepted .ensures ∙ ap (edgeAnswer tc tk x (axisOf n) p) (c .before .level-of .ensures) ∙ enquiry-answer tc tk x n p (s .args .size)
-    (f .result) (f .ensures) z (omega arith)
+    let e = r .refusal .ensures .0 in
+    c .enquire-accepted .ensures ∙ ap (edgeAnswer tc tk x (axisOf n) p) (c .before .level-of .ensures)
+    ∙ enquiry-answer tc tk x n p (s .args .size) (r .refusal .result) e (c .before .before .before .before .before .before .before .before .if1 .left) (omega arith)
 
 pub enquire-spec : {M : Type 1} → statement M
 enquire-spec =
     tie.close
     (tie.spec
+    slice-aggregate-refusal
+    slice-aggregate-refusal-2
+    slice-aggregate-refusal-3
     refusal-requires
     returns
     returns-2
     returns-3
     returns-4
     returns-5
+    slice-aggregate-enquire-accepted
+    slice-aggregate-enquire-accepted-2
     cast-enquire-accepted
     cast-enquire-accepted-2
     cast-enquire-accepted-3
