@@ -42,5 +42,5 @@ module _ (tc tk : List â„•) (clearance : Float) (ok : accepted tc tk clearance â
   few-records = let h = cells-few tc tk unrefused in omega arith
 
   -- the tables of levels before any edge is noted
-  pub levels-fresh : Levels (placesOf tk) [] (replicate 14616 11) (replicate 14616 0)
-  levels-fresh = none-noted (placesOf tk) 14616 refl (let h = few-corners in omega (arith, length-places tk))
+  pub levels-fresh : Levels tk [] (replicate 14616 11) (replicate 14616 0) (replicate 14616 0)
+  levels-fresh = none-noted tk 14616 refl (let h = few-corners in omega arith)

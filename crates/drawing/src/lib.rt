@@ -4,15 +4,18 @@ ghost use mathlib.Core.Bool.{true};
 ghost use mathlib.Core.List.{[], _∷_};
 ghost use Prim.Native.Nat.{_*_, _/_, _≤_, _<_, min};
 ghost use lib.Dec.{ltb};
-ghost use lib.ListN.{length};
+ghost use lib.ListN.{length, replicate};
+ghost use Rattle.base.specs.Lists.{collect};
 ghost use Rattle.rules.specs.Edges.{pointEdges};
 ghost use Rattle.rules.specs.Steps.{allTriangles};
-ghost use Rattle.rules.specs.Outputs.{firstOf, accepted, surveyOf};
+ghost use Rattle.rules.specs.Outputs.{firstOf, accepted, surveyOf, numbers as pointNumbers};
 ghost use Rattle.rules.specs.Closing.{ClosedIn};
-ghost use Rattle.cells.specs.Laid.{cellAt};
-ghost use Rattle.edges.specs.Tables.{Slots};
+ghost use Rattle.cells.specs.Laid.{cellAt, Laid};
+ghost use Rattle.octants.specs.Octants.{Octants};
+ghost use Rattle.edges.specs.Tables.{CellLevels, Levels, Slots};
 ghost use Rattle.trace.specs.Trace.{trace, Traced};
-ghost use Rattle.drawing.specs.Passes.{tabled, Ready, recordTriangles, Drew};
+ghost use Rattle.loops.specs.Loops.{into};
+ghost use Rattle.drawing.specs.Passes.{tabled, Ready, Filled, recordTriangles, Drew};
 ghost use Rattle.drawing.specs.Draws.{lent, Draws};
 use rules::Drawn;
 
@@ -23,17 +26,19 @@ fn draw_record(
     clearance: f32,
     wets: &[u8],
     lowest: &[u8],
+    far: &[u16],
     numbers: &[u16],
     twins: &[u16],
     keys: &[u64],
     levels: &[u8],
+    octants: &[u16],
     n: usize,
     nexts: &mut [u16],
     marks: &mut [u8],
     blocks: &mut [u8],
     out: &mut [u32],
 ) -> u32
-    requires { ⌜ Ready (now cells) (now corners) clearance (tabled (now wets) (now lowest) (now numbers) (now twins) (now keys) (now levels)) ⌝ }
+    requires { ⌜ Ready (now cells) (now corners) clearance (tabled (now wets) (now lowest) (now far) (now numbers) (now twins) (now keys) (now levels) (now octants)) ⌝ }
     requires { ⌜ n < length (now cells) / 4 ⌝ }
     requires { ⌜ Traced [] (trace (now nexts) (now marks) (now blocks)) ⌝ }
     ensures { λ r. ⌜ Drew (recordTriangles (surveyOf (now (cells .entry)) (now (corners .entry)) clearance) (cellAt (now (cells .entry)) n))
@@ -48,9 +53,11 @@ fn draw_record(
         clearance,
         wets,
         lowest,
+        far,
         numbers,
         keys,
         levels,
+        octants,
         nexts,
         marks,
         blocks,
@@ -77,16 +84,18 @@ fn draw_leaves(
     clearance: f32,
     wets: &[u8],
     lowest: &[u8],
+    far: &[u16],
     numbers: &[u16],
     twins: &[u16],
     keys: &[u64],
     levels: &[u8],
+    octants: &[u16],
     nexts: &mut [u16],
     marks: &mut [u8],
     blocks: &mut [u8],
     out: &mut [u32],
 ) -> u32
-    requires { ⌜ Ready (now cells) (now corners) clearance (tabled (now wets) (now lowest) (now numbers) (now twins) (now keys) (now levels)) ⌝ }
+    requires { ⌜ Ready (now cells) (now corners) clearance (tabled (now wets) (now lowest) (now far) (now numbers) (now twins) (now keys) (now levels) (now octants)) ⌝ }
     requires { ⌜ Traced [] (trace (now nexts) (now marks) (now blocks)) ⌝ }
     ensures { λ r. ⌜ Drew (allTriangles (surveyOf (now (cells .entry)) (now (corners .entry)) clearance))
         (now (out .entry)) (now (out .exit)) r (trace (now (nexts .exit)) (now (marks .exit)) (now (blocks .exit))) ⌝ }
@@ -102,10 +111,12 @@ fn draw_leaves(
             clearance,
             wets,
             lowest,
+            far,
             numbers,
             twins,
             keys,
             levels,
+            octants,
             n,
             nexts,
             marks,
@@ -131,6 +142,59 @@ fn shortage(points: usize, triangles: usize, n: usize, m: u32) -> u32
     0
 }
 
+// One pass over all leaves, with a trace of its own.
+fn draw_pass(
+    cells: &[u8],
+    corners: &[u8],
+    clearance: f32,
+    wets: &[u8],
+    lowest: &[u8],
+    far: &[u16],
+    numbers: &[u16],
+    twins: &[u16],
+    keys: &[u64],
+    levels: &[u8],
+    octants: &[u16],
+    out: &mut [u32],
+) -> u32
+    requires { ⌜ Ready (now cells) (now corners) clearance (tabled (now wets) (now lowest) (now far) (now numbers) (now twins) (now keys) (now levels) (now octants)) ⌝ }
+    ensures { λ r. ⌜ r ≡ length (allTriangles (surveyOf (now (cells .entry)) (now (corners .entry)) clearance)) ⌝ }
+    ensures { λ _. ⌜ now (out .exit) ≡ into (collect pointNumbers (allTriangles (surveyOf (now (cells .entry)) (now (corners .entry)) clearance))) (now (out .entry)) ⌝ }
+{
+    let mut nexts = [65535u16; 14616];
+    let mut marks = [0u8; 14616];
+    let mut blocks = [0u8; 128];
+    draw_leaves(
+        cells,
+        corners,
+        clearance,
+        wets,
+        lowest,
+        far,
+        numbers,
+        twins,
+        keys,
+        levels,
+        octants,
+        &mut nexts,
+        &mut marks,
+        &mut blocks,
+        out,
+    )
+}
+
+// A result, from the number returned and both counts.
+fn result(number: u32, n: usize, m: u32) -> Drawn
+    requires { ⌜ n ≤ 14616 ⌝ }
+    ensures { λ r. ⌜ r ≡ record { number = number; points = n; triangles = m } ⌝ }
+{
+    Drawn {
+        number: number,
+        points: n as u32,
+        triangles: m,
+    }
+}
+
 // Draws an accepted survey from its tables: counts, refuses a slice that is too short, and then writes.
 fn draw_tables(
     cells: &[u8],
@@ -138,69 +202,99 @@ fn draw_tables(
     clearance: f32,
     wets: &[u8],
     lowest: &[u8],
+    far: &[u16],
     numbers: &[u16],
     twins: &[u16],
     keys: &[u64],
     levels: &[u8],
+    octants: &[u16],
     slots: &[u16],
     n: usize,
     points: &mut [f32],
     triangles: &mut [u32],
 ) -> Drawn
-    requires { ⌜ Ready (now cells) (now corners) clearance (tabled (now wets) (now lowest) (now numbers) (now twins) (now keys) (now levels)) ⌝ }
+    requires { ⌜ Ready (now cells) (now corners) clearance (tabled (now wets) (now lowest) (now far) (now numbers) (now twins) (now keys) (now levels) (now octants)) ⌝ }
     requires { ⌜ Slots (surveyOf (now cells) (now corners) clearance) (now slots) ⌝ }
     requires { ⌜ n ≡ length (pointEdges (surveyOf (now cells) (now corners) clearance)) ⌝ }
     ensures { λ r. ⌜ Draws (lent (now (cells .entry)) (now (corners .entry)) clearance (now (points .entry)) (now (triangles .entry))) r
         (now (points .exit)) (now (triangles .exit)) ⌝ }
 {
-    let mut nexts = [65535u16; 14616];
-    let mut marks = [0u8; 14616];
-    let mut blocks = [0u8; 128];
     let mut none = [0u32; 1];
-    let m = draw_leaves(
+    let m = draw_pass(
         cells,
         corners,
         clearance,
         wets,
         lowest,
+        far,
         numbers,
         twins,
         keys,
         levels,
-        &mut nexts,
-        &mut marks,
-        &mut blocks,
+        octants,
         &mut none,
     );
     let number = shortage(points.len(), triangles.len(), n, m);
     if number != 0 {
-        return Drawn {
-            number: number,
-            points: n as u32,
-            triangles: m,
-        };
+        return result(number, n, m);
     }
-    edges::write_points(cells, corners, clearance, lowest, slots, n, points);
-    draw_leaves(
+    edges::write_points(cells, corners, clearance, lowest, far, slots, n, points);
+    draw_pass(
         cells,
         corners,
         clearance,
         wets,
         lowest,
+        far,
         numbers,
         twins,
         keys,
         levels,
-        &mut nexts,
-        &mut marks,
-        &mut blocks,
+        octants,
         triangles,
     );
-    Drawn {
-        number: 0,
-        points: n as u32,
-        triangles: m,
-    }
+    result(0, n, m)
+}
+
+// Fills the tables of the edges and points of an accepted survey. How many points there are.
+fn fill_tables(
+    cells: &[u8],
+    corners: &[u8],
+    clearance: f32,
+    levels: &[u8],
+    octants: &[u16],
+    wets: &mut [u8],
+    lowest: &mut [u8],
+    far: &mut [u16],
+    numbers: &mut [u16],
+    slots: &mut [u16],
+    twins: &mut [u16],
+) -> usize
+    requires { ⌜ accepted (now cells) (now corners) clearance ≡ true ⌝ }
+    requires { ⌜ CellLevels (now cells) (now levels) × Octants (now cells) (now corners) (now octants) ⌝ }
+    requires { ⌜ Levels (now corners) [] (now lowest) (replicate 14616 0) (now far) ⌝ }
+    requires { ⌜ (length (now wets) ≡ 4872) × (length (now numbers) ≡ 14616) × (length (now slots) ≡ 14616) × (length (now twins) ≡ 14616) ⌝ }
+    ensures { λ r. ⌜ Filled (now (cells .entry)) (now (corners .entry)) clearance (now (wets .exit)) (now (lowest .exit)) (now (far .exit))
+        (now (numbers .exit)) (now (slots .exit)) (now (twins .exit)) r ⌝ }
+{
+    let mut highest = [0u8; 14616];
+    edges::fill_wets(corners, clearance, wets);
+    edges::fill_levels(cells, corners, octants, levels, lowest, &mut highest, far);
+    let n = edges::number_slots(cells, corners, clearance, wets, lowest, far, numbers, slots);
+    edges::fill_twins(
+        cells,
+        corners,
+        clearance,
+        wets,
+        lowest,
+        &highest,
+        far,
+        numbers,
+        slots,
+        n,
+        twins,
+    );
+    n
 }
 
 // Draws an accepted survey: its tables, and then what is drawn from them.
@@ -208,43 +302,35 @@ fn draw_accepted(
     cells: &[u8],
     corners: &[u8],
     clearance: f32,
+    keys: &[u64],
+    levels: &[u8],
+    octants: &[u16],
     points: &mut [f32],
     triangles: &mut [u32],
 ) -> Drawn
     requires { ⌜ accepted (now cells) (now corners) clearance ≡ true ⌝ }
+    requires { ⌜ Laid (now cells) (now keys) (now levels) × Octants (now cells) (now corners) (now octants) ⌝ }
+    requires { ⌜ (length (now cells) / 4 ≤ length (now keys)) × (length (now cells) / 4 ≤ length (now levels)) ⌝ }
     ensures { λ r. ⌜ Draws (lent (now (cells .entry)) (now (corners .entry)) clearance (now (points .entry)) (now (triangles .entry))) r
         (now (points .exit)) (now (triangles .exit)) ⌝ }
 {
-    let mut keys = [0u64; 2049];
-    let mut levels = [0u8; 2049];
     let mut wets = [0u8; 4872];
     let mut lowest = [11u8; 14616];
-    let mut highest = [0u8; 14616];
+    let mut far = [0u16; 14616];
     let mut numbers = [0u16; 14616];
     let mut slots = [0u16; 14616];
     let mut twins = [0u16; 14616];
-    let deep = cells::lay_out(cells, cells.len() / 4, &mut keys, &mut levels);
-    edges::fill_wets(corners, clearance, &mut wets);
-    edges::fill_levels(cells, corners, &keys, &levels, &mut lowest, &mut highest);
-    let n = edges::number_slots(
+    let n = fill_tables(
         cells,
         corners,
         clearance,
-        &wets,
-        &lowest,
+        levels,
+        octants,
+        &mut wets,
+        &mut lowest,
+        &mut far,
         &mut numbers,
         &mut slots,
-    );
-    edges::fill_twins(
-        cells,
-        corners,
-        clearance,
-        &wets,
-        &lowest,
-        &highest,
-        &numbers,
-        &slots,
-        n,
         &mut twins,
     );
     draw_tables(
@@ -253,10 +339,12 @@ fn draw_accepted(
         clearance,
         &wets,
         &lowest,
+        &far,
         &numbers,
         &twins,
-        &keys,
-        &levels,
+        keys,
+        levels,
+        octants,
         &slots,
         n,
         points,
@@ -277,7 +365,17 @@ pub fn draw(
         (now (points .exit)) (now (triangles .exit)) ⌝ }
     ensures closes { λ r. ⌜ (r .number ≡ 0 → ClosedIn (now (cells .entry)) (now (corners .entry)) clearance r (now (points .exit)) (now (triangles .exit))) ⌝ }
 {
-    let number = checks::refusal(cells, corners, clearance);
+    let mut keys = [0u64; 2049];
+    let mut levels = [0u8; 2049];
+    let mut octants = [0u16; 16392];
+    let number = checks::refusal(
+        cells,
+        corners,
+        clearance,
+        &mut keys,
+        &mut levels,
+        &mut octants,
+    );
     if number != 0 {
         return Drawn {
             number: number,
@@ -285,5 +383,14 @@ pub fn draw(
             triangles: 0,
         };
     }
-    draw_accepted(cells, corners, clearance, points, triangles)
+    draw_accepted(
+        cells,
+        corners,
+        clearance,
+        &keys,
+        &levels,
+        &octants,
+        points,
+        triangles,
+    )
 }

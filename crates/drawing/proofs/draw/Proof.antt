@@ -1,8 +1,18 @@
--- `drawing::draw` meets its contract: what it gives is what the rules draw, and that is closed. Assumes nothing.
-use borrow.Author.Needs.{needs}
+-- `drawing::draw` meets its contract: what it gives is what the rules draw, and that is closed.
+use Rattle.drawing.proofs.Passed.{few-records}
 use Rattle.drawing.proofs.Outcome.{passes, refused, drawn-closed}
+use borrow.Author.Needs.{needs}
 use Rattle.drawing.proofs.draw.Statement.{statement}
 use Rattle.drawing.proofs.draw.Tie as tie
+
+slice-aggregate-refusal : tie.Need-slice-aggregate-refusal
+slice-aggregate-refusal c = search needs
+
+slice-aggregate-refusal-2 : tie.Need-slice-aggregate-refusal-2
+slice-aggregate-refusal-2 c = search needs
+
+slice-aggregate-refusal-3 : tie.Need-slice-aggregate-refusal-3
+slice-aggregate-refusal-3 c = search needs
 
 refusal-requires : tie.Need-refusal-requires
 refusal-requires c κs = search needs
@@ -10,14 +20,28 @@ refusal-requires c κs = search needs
 -- refused by a check
 returns : tie.Need-returns
 returns c =
-    let a = c .before .before .before .before .before .before .args in
-    let d = refused (a .cells .now) (a .corners .now) (a .clearance) (a .points .now) (a .triangles .now) (c .before .refusal .result) (c .before .refusal .ensures) (c .if1 .taken) in
+    let r = c .before .before .before .before in
+    let a = r .before .before .before .before .before .before .before .before .args in
+    let d = refused (a .cells .now) (a .corners .now) (a .clearance) (a .points .now) (a .triangles .now) (r .refusal .result) (r .refusal .ensures .0) (c .if1 .taken) in
     (d, drawn-closed (a .cells .now) (a .corners .now) (a .clearance) (a .points .now) (a .triangles .now) _ _ _ d)
+
+slice-aggregate-draw-accepted : tie.Need-slice-aggregate-draw-accepted
+slice-aggregate-draw-accepted c = search needs
+
+slice-aggregate-draw-accepted-2 : tie.Need-slice-aggregate-draw-accepted-2
+slice-aggregate-draw-accepted-2 c = search needs
+
+slice-aggregate-draw-accepted-3 : tie.Need-slice-aggregate-draw-accepted-3
+slice-aggregate-draw-accepted-3 c = search needs
 
 draw-accepted-requires : tie.Need-draw-accepted-requires
 draw-accepted-requires c κs =
-    let a = c .before .before .before .before .before .before .before .before .args in
-    passes (a .cells .now) (a .corners .now) (a .clearance) (a .points .now) (a .triangles .now) (c .before .before .before .refusal .result) (c .before .before .before .refusal .ensures) (c .before .before .if1 .left)
+    let r = c .before .before .before .before .before .before .before .before .before in
+    let a = r .before .before .before .before .before .before .before .before .args in
+    let zero = c .before .before .before .before .before .if1 .left in
+    let ok = passes (a .cells .now) (a .corners .now) (a .clearance) (a .points .now) (a .triangles .now) (r .refusal .result) (r .refusal .ensures .0) zero in
+    let few = few-records (a .cells .now) (a .corners .now) (a .clearance) ok in
+    (ok, ((r .refusal .ensures .1 .0 zero, r .refusal .ensures .1 .1 zero), (search (needs, few), search (needs, few))))
 
 same-length : tie.Need-same-length
 same-length c = search needs
@@ -28,9 +52,23 @@ same-length-2 c = search needs
 -- accepted
 returns-2 : tie.Need-returns-2
 returns-2 c =
-    let a = c .before .before .before .before .before .before .before .before .before .before .before .before .before .args in
+    let a = c .before .before .before .before .before .before .before .before .before .before .before .before .before .before .before .before .before .before .before .before .before .before .args in
     let d = c .before .before .before .before .draw-accepted .ensures in
     (d, drawn-closed (a .cells .now) (a .corners .now) (a .clearance) (a .points .now) (a .triangles .now) _ _ _ d)
 
 pub draw-spec : {M : Type 1} → statement M
-draw-spec = tie.close (tie.spec refusal-requires returns draw-accepted-requires same-length same-length-2 returns-2)
+draw-spec =
+    tie.close
+    (tie.spec
+    slice-aggregate-refusal
+    slice-aggregate-refusal-2
+    slice-aggregate-refusal-3
+    refusal-requires
+    returns
+    slice-aggregate-draw-accepted
+    slice-aggregate-draw-accepted-2
+    slice-aggregate-draw-accepted-3
+    draw-accepted-requires
+    same-length
+    same-length-2
+    returns-2)

@@ -1,82 +1,66 @@
--- `drawing::draw_tables` meets its contract. Assumes nothing.
+-- `drawing::draw_tables` meets its contract: a slice that is too short is refused before anything is written.
 use native.Mathlib.Omega.{arith}
-use borrow.Author.Needs.{needs}
-use Rattle.trace.proofs.Laws.{fresh}
+use mathlib.Core.Path.{sym, subst}
+use Rattle.drawing.specs.Draws.{lent, Draws}
 use Rattle.drawing.proofs.Leaves.{points-few}
 use Rattle.drawing.proofs.Outcome.{short, fits, triangles-written, drawn}
+use borrow.Author.Needs.{needs}
 use Rattle.drawing.proofs.draw_tables.Statement.{statement}
 use Rattle.drawing.proofs.draw_tables.Tie as tie
 
-slice-aggregate-draw-leaves : tie.Need-slice-aggregate-draw-leaves
-slice-aggregate-draw-leaves c = search needs
+slice-aggregate-draw-pass : tie.Need-slice-aggregate-draw-pass
+slice-aggregate-draw-pass c = search needs
 
-slice-aggregate-draw-leaves-2 : tie.Need-slice-aggregate-draw-leaves-2
-slice-aggregate-draw-leaves-2 c = search needs
-
-slice-aggregate-draw-leaves-3 : tie.Need-slice-aggregate-draw-leaves-3
-slice-aggregate-draw-leaves-3 c = search needs
-
-slice-aggregate-draw-leaves-4 : tie.Need-slice-aggregate-draw-leaves-4
-slice-aggregate-draw-leaves-4 c = search needs
-
-draw-leaves-requires : tie.Need-draw-leaves-requires
-draw-leaves-requires c κs = (c .before .before .before .before .before .before .before .before .before .before .before .before .before .before .before .pre .0, fresh)
+draw-pass-requires : tie.Need-draw-pass-requires
+draw-pass-requires c κs = search needs
 
 shortage-requires : tie.Need-shortage-requires
 shortage-requires c κs =
-    let s = c .before .before .before .before .before .before .before .before .before .before .before .before .before .before .before .before .before .before .before .before in
+    let s = c .before .before .before .before .before .before .before .before .before .before .before .before .before .before .before .before in
     let a = s .args in
-    let ready = s .pre .0 in
-    let few = points-few (a .cells .now) (a .corners .now) (a .clearance) (ready .passed) in
-    omega (arith, s .pre .1 .1)
+    let ok = s .pre .0 .passed in
+    omega (arith, s .pre .1 .1, points-few (a .cells .now) (a .corners .now) (a .clearance) ok)
 
-cast-t31 : tie.Need-cast-t31
-cast-t31 c =
-    let s = c .before .before .before .before .before .before .before .before .before .before .before .before .before .before .before .before .before .before .before .before .before .before in
+result-requires : tie.Need-result-requires
+result-requires c κs =
+    let s = c .before .before .before .before .before .before .before .before .before .before .before .before .before .before .before .before .before .before in
     let a = s .args in
-    let ready = s .pre .0 in
-    let few = points-few (a .cells .now) (a .corners .now) (a .clearance) (ready .passed) in
-    omega (arith, s .pre .1 .1)
+    let ok = s .pre .0 .passed in
+    omega (arith, s .pre .1 .1, points-few (a .cells .now) (a .corners .now) (a .clearance) ok)
 
 -- a slice is too short
 returns : tie.Need-returns
 returns c =
-    let s = c .before .before .before .before .before .before .before .before .before .before .before .before .before .before .before .before .before .before .before .before .before .before in
+    let s = c .before .before .before .before .before .before .before .before .before .before .before .before .before .before .before .before .before .before .before in
     let a = s .args in
-    let ready = s .pre .0 in
-    short (a .cells .now) (a .corners .now) (a .clearance) (a .points .now) (a .triangles .now) (ready .passed)
-    (a .n) (c .before .before .before .before .before .before .draw-leaves .result) (c .before .shortage .result) (s .pre .1 .1) (c .before .before .before .before .before .before .draw-leaves .ensures .counted) (c .before .shortage .ensures)
-    (c .if1 .taken)
+    let ok = s .pre .0 .passed in
+    let m = c .before .before .before .before .draw-pass in
+    let number = c .before .before .shortage in
+    subst (λ r. Draws (lent (a .cells .now) (a .corners .now) (a .clearance) (a .points .now) (a .triangles .now)) r (a .points .now) (a .triangles .now))
+    (sym (c .result .ensures))
+    (short (a .cells .now) (a .corners .now) (a .clearance) (a .points .now) (a .triangles .now) ok (a .n) (m .result) (number .result) (s .pre .1 .1)
+    (m .ensures .0) (number .ensures) (c .before .if1 .taken))
 
 write-points-requires : tie.Need-write-points-requires
 write-points-requires c κs =
-    let s = c .before .before .before .before .before .before .before .before .before .before .before .before .before .before .before .before .before .before .before .before .before .before .before in
+    let s = c .before .before .before .before .before .before .before .before .before .before .before .before .before .before .before .before .before .before .before in
     let a = s .args in
-    let ready = s .pre .0 in
-    let room = fits (a .cells .now) (a .corners .now) (a .clearance) (a .points .now) (a .triangles .now) (ready .passed)
-    (a .n) (c .before .before .before .before .before .before .before .draw-leaves .result) (c .before .before .shortage .result) (s .pre .1 .1) (c .before .before .before .before .before .before .before .draw-leaves .ensures .counted) (c .before .before .shortage .ensures)
-    (c .before .if1 .left) in
-    (ready .passed, (ready .low, (s .pre .1 .0, (s .pre .1 .1, room .0))))
+    let ok = s .pre .0 .passed in
+    let m = c .before .before .before .before .draw-pass in
+    let number = c .before .before .shortage in
+    let room = fits (a .cells .now) (a .corners .now) (a .clearance) (a .points .now) (a .triangles .now) ok (a .n) (m .result) (number .result) (s .pre .1 .1)
+    (m .ensures .0) (number .ensures) (c .before .if1 .left) in
+    (ok, (s .pre .0 .low, (s .pre .0 .end, (s .pre .1 .0, (s .pre .1 .1, room .0)))))
 
-slice-aggregate-draw-leaves-5 : tie.Need-slice-aggregate-draw-leaves-5
-slice-aggregate-draw-leaves-5 c = search needs
+draw-pass-requires-2 : tie.Need-draw-pass-requires-2
+draw-pass-requires-2 c κs = c .before .before .before .before .before .before .before .before .before .before .before .before .before .before .before .before .before .before .before .before .before .before .before .pre .0
 
-slice-aggregate-draw-leaves-6 : tie.Need-slice-aggregate-draw-leaves-6
-slice-aggregate-draw-leaves-6 c = search needs
-
-slice-aggregate-draw-leaves-7 : tie.Need-slice-aggregate-draw-leaves-7
-slice-aggregate-draw-leaves-7 c = search needs
-
-draw-leaves-requires-2 : tie.Need-draw-leaves-requires-2
-draw-leaves-requires-2 c κs = (c .before .before .before .before .before .before .before .before .before .before .before .before .before .before .before .before .before .before .before .before .before .before .before .before .before .before .before .before .before .before .pre .0, c .before .before .before .before .before .before .before .before .before .before .before .before .before .before .draw-leaves .ensures .emptied)
-
-cast-t35 : tie.Need-cast-t35
-cast-t35 c =
-    let s = c .before .before .before .before .before .before .before .before .before .before .before .before .before .before .before .before .before .before .before .before .before .before .before .before .before .before .before .before .before .before .before .before .before .before .before .before in
+result-requires-2 : tie.Need-result-requires-2
+result-requires-2 c κs =
+    let s = c .before .before .before .before .before .before .before .before .before .before .before .before .before .before .before .before .before .before .before .before .before .before .before .before .before .before in
     let a = s .args in
-    let ready = s .pre .0 in
-    let few = points-few (a .cells .now) (a .corners .now) (a .clearance) (ready .passed) in
-    omega (arith, s .pre .1 .1)
+    let ok = s .pre .0 .passed in
+    omega (arith, s .pre .1 .1, points-few (a .cells .now) (a .corners .now) (a .clearance) ok)
 
 same-length : tie.Need-same-length
 same-length c = search needs
@@ -87,34 +71,32 @@ same-length-2 c = search needs
 -- points and triangles are written
 returns-2 : tie.Need-returns-2
 returns-2 c =
-    let s = c .before .before .before .before .before .before .before .before .before .before .before .before .before .before .before .before .before .before .before .before .before .before .before .before .before .before .before .before .before .before .before .before .before .before .before .before in
+    let s = c .before .before .before .before .before .before .before .before .before .before .before .before .before .before .before .before .before .before .before .before .before .before .before .before .before .before .before in
     let a = s .args in
-    let ready = s .pre .0 in
-    let m = c .before .before .before .before .before .before .before .before .before .before .before .before .before .before .before .before .before .before .before .before .draw-leaves .result in
-    let all = c .before .before .before .before .before .before .before .before .before .before .before .before .before .before .before .before .before .before .before .before .draw-leaves .ensures .counted in
-    let number = c .before .before .before .before .before .before .before .before .before .before .before .before .before .before .before .shortage in
-    let zero = c .before .before .before .before .before .before .before .before .before .before .before .before .before .before .if1 .left in
-    drawn (a .cells .now) (a .corners .now) (a .clearance) (a .points .now) (a .triangles .now) (ready .passed) (a .n) m (number .result) (s .pre .1 .1) all (number .ensures) zero _ _ (c .before .before .before .before .before .before .before .before .before .before .before .before .write-points .ensures)
-    (triangles-written (a .cells .now) (a .corners .now) (a .clearance) (a .points .now) (a .triangles .now) (ready .passed) (a .n) m (number .result) (s .pre .1 .1) all (number .ensures) zero _ (c .before .before .before .before .before .draw-leaves2 .ensures .wrote))
+    let ok = s .pre .0 .passed in
+    let m = c .before .before .before .before .before .before .before .before .before .before .before .before .draw-pass in
+    let number = c .before .before .before .before .before .before .before .before .before .before .shortage in
+    let zero = c .before .before .before .before .before .before .before .before .before .if1 .left in
+    let points = c .before .before .before .before .before .before .before .write-points .last .1 .1 .1 .1 .1 .1 .1 .0 in
+    let triangles = c .before .before .before .draw-pass2 .last .1 .1 .1 .1 .1 .1 .1 .1 .1 .1 .1 .0 in
+    subst (λ r. Draws (lent (a .cells .now) (a .corners .now) (a .clearance) (a .points .now) (a .triangles .now)) r points triangles) (sym (c .result2 .ensures))
+    (drawn (a .cells .now) (a .corners .now) (a .clearance) (a .points .now) (a .triangles .now) ok (a .n) (m .result) (number .result) (s .pre .1 .1)
+    (m .ensures .0) (number .ensures) zero points triangles (c .before .before .before .before .before .before .before .write-points .ensures)
+    (triangles-written (a .cells .now) (a .corners .now) (a .clearance) (a .points .now) (a .triangles .now) ok (a .n) (m .result) (number .result)
+    (s .pre .1 .1) (m .ensures .0) (number .ensures) zero triangles (c .before .before .before .draw-pass2 .ensures .1)))
 
 pub draw-tables-spec : {M : Type 1} → statement M
 draw-tables-spec =
     tie.close
     (tie.spec
-    slice-aggregate-draw-leaves
-    slice-aggregate-draw-leaves-2
-    slice-aggregate-draw-leaves-3
-    slice-aggregate-draw-leaves-4
-    draw-leaves-requires
+    slice-aggregate-draw-pass
+    draw-pass-requires
     shortage-requires
-    cast-t31
+    result-requires
     returns
     write-points-requires
-    slice-aggregate-draw-leaves-5
-    slice-aggregate-draw-leaves-6
-    slice-aggregate-draw-leaves-7
-    draw-leaves-requires-2
-    cast-t35
+    draw-pass-requires-2
+    result-requires-2
     same-length
     same-length-2
     returns-2)
