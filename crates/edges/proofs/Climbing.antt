@@ -4,30 +4,24 @@ use mathlib.Core.Path.{_≡_, refl, sym, ap, _∙_, subst}
 use mathlib.Core.Logic.{_⊎_, inl, inr}
 use mathlib.Core.Bool.{Bool, true, false, not, Bool·beq, cond}
 use mathlib.Core.List.{List}
-use mathlib.Core.Option.{Option, none, some}
+use mathlib.Core.Option.{none, some}
 use native.Mathlib.Nat.{div-eq-of-lt}
 use native.Mathlib.Omega.{arith}
 use lib.Dec.{T, eqb}
-use lib.Ieee.{Float}
-use lib.ListN.{length, getD}
+use lib.ListN.{length}
 use borrow.Author.Tests.{eqb-true}
-use Rattle.base.specs.Lists.{any}
-use Rattle.base.specs.Grid.{Place, Axis, X, Y, Z, along, put, move, back, axisOf, same}
-use Rattle.base.proofs.Tests.{→true, true→, either, below}
+use Rattle.base.specs.Grid.{Place, Axis, X, Y, Z, along, put, move, back}
+use Rattle.base.proofs.Tests.{below}
 use Rattle.base.proofs.Places.{along-put, put-put, put-along}
-use Rattle.rules.specs.Survey.{cellsOf, cornersOf, cornerRecord, placeOf, wetAt, Survey}
-use Rattle.rules.specs.Edges.{edge, isEdge, divided, odd, carrier, numberOf, pointOf}
+use Rattle.rules.specs.Survey.{cornerRecord, placeOf, Survey}
+use Rattle.rules.specs.Edges.{edge, isEdge, odd, carrier, pointOf}
 use Rattle.rules.specs.Steps.{isUpper, above, other, twin, numberElse}
-use Rattle.rules.specs.Outputs.{accepted, surveyOf}
-use Rattle.records.specs.Keys.{keyOf, placesOf, recordAt}
-use Rattle.records.proofs.Keys.{Bytes, Short, record-short, get-place, length-places}
-use Rattle.records.proofs.Found.{found-listed}
+use Rattle.records.specs.Keys.{keyOf, placesOf}
+use Rattle.records.proofs.Keys.{Bytes, Short, record-short, get-place}
 use Rattle.octree.proofs.Halves.{move-move}
-use Rattle.edges.specs.Tables.{placeAt, lowestLevel, highestLevel, Lowest, Highest, OddEdge, Sought}
+use Rattle.edges.specs.Tables.{placeAt}
 use Rattle.edges.specs.Noting.{keyUnit}
-use Rattle.edges.proofs.Find.{key-move, key-back, found}
-use Rattle.edges.proofs.Levels.{edge→levels, levels→edge}
-use Rattle.edges.proofs.Readings.{corners, edges-law, lowest-read}
+use Rattle.edges.proofs.Find.{key-back}
 use Rattle.edges.proofs.Descent.{point-is}
 
 -- ---- the edge above, in keys
@@ -40,7 +34,7 @@ upper-room a p l h = go (below (along a p) (2 ^ l))
     go (inr o) = o
 
 -- a step back leaves a key
-pub unit-room : (a : Axis) (d : ℕ) (p : Place) → d ≤ along a p → d * keyUnit a ≤ keyOf p
+unit-room : (a : Axis) (d : ℕ) (p : Place) → d ≤ along a p → d * keyUnit a ≤ keyOf p
 unfolding keyOf
 unit-room X d p h = omega arith
 unit-room Y d p h = omega arith
@@ -67,7 +61,7 @@ short-back X d p h = let x = h .x-fits in record { x-fits = omega arith; y-fits 
 short-back Y d p h = let y = h .y-fits in record { x-fits = h .x-fits; y-fits = omega arith }
 short-back Z d p h = record { x-fits = h .x-fits; y-fits = h .y-fits }
 
-pub place-short : (t : List ℕ) → Bytes t → (k : ℕ) → k < length t / 10 → Short (placeAt (placesOf t) k)
+place-short : (t : List ℕ) → Bytes t → (k : ℕ) → k < length t / 10 → Short (placeAt (placesOf t) k)
 place-short t b k h = subst Short (sym (get-place t k h)) (record-short t b k h)
 
 pub above-short : (t : List ℕ) → Bytes t → (a : Axis) (k l : ℕ) → k < length t / 10 → Short (above a (placeAt (placesOf t) k) l)

@@ -1,10 +1,10 @@
 -- The point of an odd edge by corner records: down to the odd half while the edge is above the lowest level, and then its slot's number.
-use Prim.Native.Nat.{ℕ, suc, _+_, _*_, _/_, _^_, _≤_, _<_}
+use Prim.Native.Nat.{ℕ, suc, _+_, _*_, _^_, _≤_, _<_}
 use mathlib.Core.Path.{_≡_, refl, sym, ap, _∙_, subst}
 use mathlib.Core.Bool.{Bool, true, false, not, _&&_, cond}
 use mathlib.Core.List.{List}
 use native.Mathlib.Omega.{arith}
-use lib.Dec.{T, eqb, ltb}
+use lib.Dec.{T, eqb}
 use lib.Ieee.{Float}
 use lib.ListN.{length, getD}
 use borrow.Author.Tests.{lt-ltb}
@@ -40,7 +40,7 @@ module _ (tc tk : List ℕ) (clearance : Float) (ok : accepted tc tk clearance �
   abbrev at : ℕ → Place
   at k = placeAt (placesOf tk) k
 
-  pub odd-level : (k l : ℕ) → OddEdge tc tk clearance (axisOf n) k l → l ≤ 10
+  odd-level : (k l : ℕ) → OddEdge tc tk clearance (axisOf n) k l → l ≤ 10
   unfolding surveyOf
   odd-level k l o = edges-law tc tk clearance ok .shallow a (at k) l (o .is-edge)
 
@@ -75,7 +75,8 @@ module _ (tc tk : List ℕ) (clearance : Float) (ok : accepted tc tk clearance �
         OddEdge tc tk clearance (axisOf n) r l ×
         (carrier (surveyOf tc tk clearance) (axisOf n) (placeAt (placesOf tk) r) l ≡ carrier (surveyOf tc tk clearance) (axisOf n) (placeAt (placesOf tk) k) m)
     down wets t w r u e =
-        go (odd (wetAt (cornersOf tk) clearance) a (at k) l) refl (e ∙ ap (λ b. cond b k w) (odd-read tk clearance wets t a k w l (o .inside) u)) split-at upper-odd
+        go (odd (wetAt (cornersOf tk) clearance) a (at k) l) refl (e ∙ ap (λ b. cond b k w) (odd-read tk clearance wets t a k w l (o .inside) u))
+        split-at upper-odd
       where
         go : (t : Bool) → odd (wetAt (cornersOf tk) clearance) a (at k) l ≡ t → r ≡ cond t k w →
             carrier (surveyOf tc tk clearance) a (at k) m ≡ cond t (carrier (surveyOf tc tk clearance) a (at k) l)

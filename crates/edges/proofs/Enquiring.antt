@@ -1,27 +1,26 @@
 -- The edge enquiry: the level of a length, the answer from the tables, and the order of the refusals.
-use Prim.Native.Nat.{ℕ, zero, suc, _+_, _-_, _*_, _/_, _^_, _≤_, _<_}
-use mathlib.Core.Path.{_≡_, refl, sym, ap, _∙_, subst}
+use Prim.Native.Nat.{ℕ, suc, _+_, _*_, _^_, _≤_, _<_}
+use mathlib.Core.Path.{_≡_, refl, sym, ap, _∙_}
 use mathlib.Core.Logic.{_⊎_, inl, inr}
 use mathlib.Core.Bool.{Bool, true, false, not, _&&_, cond}
 use mathlib.Core.List.{List, [], _∷_, _++_}
 use native.Mathlib.Omega.{arith}
 use lib.Dec.{T, eqb, ltb}
 use lib.Ieee.{Float}
-use lib.ListN.{length, getD}
 use borrow.Author.Tests.{eq-eqb, ne-eqb, lt-ltb, le-ltb}
 use Rattle.base.specs.Lists.{any, first, count}
-use Rattle.base.specs.Grid.{Place, Axis, along, move, axisOf, same}
+use Rattle.base.specs.Grid.{Place, Axis, along, axisOf}
 use Rattle.base.proofs.Tests.{→true, true→, either, false→}
 use Rattle.rules.specs.Survey.{cellsOf, cornersOf, wetAt, entries, Survey}
-use Rattle.rules.specs.Edges.{CellEdge, edge, isEdge, odd, numberOf, carrier, pointOf, pointEdges, Spot, spotOn}
-use Rattle.rules.specs.Outputs.{firstOf, checks, accepted, surveyRefusal, surveyOf, entriesRight, levelOf, enquiry}
+use Rattle.rules.specs.Edges.{isEdge, odd, numberOf, carrier, Spot, spotOn}
+use Rattle.rules.specs.Outputs.{firstOf, checks, accepted, surveyOf, entriesRight, levelOf, enquiry}
 use Rattle.rules.specs.declared.Edge.the-variants.{Even, Crossing}
 use Rattle.rules.specs.declared.Answer.{Answer}
 use Rattle.rules.specs.declared.Answer.the-variants.{Refused, Found}
-use Rattle.records.specs.Keys.{keyOf, placesOf}
+use Rattle.records.specs.Keys.{keyOf}
 use Rattle.cells.specs.Laid.{tooDeep}
 use Rattle.octree.proofs.Lawful.{Lawful}
-use Rattle.octree.proofs.Accepted.{Checked, checked, accepted→, lawful, numbered, first-append}
+use Rattle.octree.proofs.Accepted.{checked, lawful, numbered, first-append}
 use Rattle.octree.proofs.Edges.{edge→}
 use Rattle.octree.proofs.Aligned.{corner-place}
 use Rattle.edges.specs.Enquiry.{edgeAnswer}

@@ -1,7 +1,7 @@
 -- Tables filled from the front, entry by entry; and the wetness of a corner record.
-use Prim.Native.Nat.{ℕ, _+_, _/_, _≤_, _<_}
-use mathlib.Core.Path.{_≡_, refl, sym, ap, _∙_, subst}
-use mathlib.Core.Bool.{Bool, true}
+use Prim.Native.Nat.{ℕ, _+_, _/_, _<_}
+use mathlib.Core.Path.{_≡_, sym, ap, _∙_}
+use mathlib.Core.Bool.{true}
 use mathlib.Core.List.{List}
 use native.Mathlib.Decide.{ℕ-discrete}
 use native.Mathlib.Omega.{arith}
@@ -9,7 +9,7 @@ use lib.Ieee.{Float}
 use lib.ListN.{length, getD, set}
 use lib.Seq.{getD-set-same, getD-set-other}
 use Rattle.base.specs.Lists.{bit}
-use Rattle.rules.specs.Survey.{cornerRecord, cornersOf, placeOf, cornerAt, wet, wetAt}
+use Rattle.rules.specs.Survey.{cornerRecord, cornersOf, placeOf, wet, wetAt}
 use Rattle.rules.specs.Outputs.{rising}
 use Rattle.records.specs.Keys.{keyOf, placesOf, recordAt}
 use Rattle.records.proofs.Keys.{Bytes, record-short, get-place}

@@ -1,17 +1,16 @@
 -- Corner records by key: each record is found by its own key, a listed place is found, and moves along an axis in terms of keys.
 use Prim.Native.Nat.{ℕ, zero, suc, _+_, _-_, _*_, _/_, _^_, _≤_, _<_}
-use mathlib.Core.Path.{_≡_, refl, sym, ap, _∙_, subst}
-use mathlib.Core.Bool.{Bool, true}
+use mathlib.Core.Path.{_≡_, refl, sym, ap, _∙_}
+use mathlib.Core.Bool.{true}
 use mathlib.Core.List.{List}
 use native.Mathlib.Nat.{mul-le-mul}
 use native.Mathlib.Omega.{arith}
 use lib.Dec.{T}
-use lib.ListN.{length, getD}
-use Rattle.base.specs.Lists.{any, position}
+use lib.ListN.{length}
+use Rattle.base.specs.Lists.{any}
 use Rattle.base.specs.Grid.{Place, origin, Axis, X, Y, Z, along, axisOf, move, back, same}
 use Rattle.base.proofs.Lists.{position-of}
 use Rattle.base.proofs.Places.{same→}
-use Rattle.rules.specs.Survey.{Cell, size}
 use Rattle.cells.proofs.Octants.{size-fits}
 use Rattle.rules.specs.Outputs.{rising}
 use Rattle.records.specs.Keys.{keyOf, placesOf, recordAt}
@@ -31,11 +30,6 @@ unfolding keyOf
 key-back X d p h = omega arith
 key-back Y d p h = omega arith
 key-back Z d p h = omega arith
-
--- the key of a place one edge further
-pub key-stepped : (r key l : ℕ) (a b : Axis) (p : Place) (c : Cell) → r ≡ key + 2 ^ l * keyUnit a → a ≡ b → key ≡ keyOf p → l ≡ c .level →
-    r ≡ keyOf (move b (size c) p)
-key-stepped r key l a b p c e f g h = e ∙ (λ i. g i + 2 ^ h i * keyUnit (f i)) ∙ sym (key-move b (size c) p)
 
 -- a step of an edge's length, as a difference of keys
 pub step-fits : (l u : ℕ) → l ≤ 10 → u ≤ 4294967296 → 2 ^ l * u ≤ 4398046511104

@@ -1,17 +1,16 @@
 -- The tables' levels in the rules' words: an edge is there just between the lowest and the highest level, it is divided just above the lowest,
 -- and the one that may be crossed is that of the lowest level.
-use Prim.Native.Nat.{ℕ, zero, suc, _+_, _^_, _≤_, _<_}
+use Prim.Native.Nat.{ℕ, zero, suc, _^_, _≤_, _<_}
 use mathlib.Core.Path.{_≡_, refl, sym, ap, _∙_, subst}
 use mathlib.Core.Logic.{_⊎_, inl, inr}
-use mathlib.Core.Bool.{Bool, true, false, not, _&&_, _||_, cond}
-use mathlib.Core.List.{List}
+use mathlib.Core.Bool.{Bool, true, false, not, _&&_, cond}
 use native.Mathlib.Omega.{arith}
 use lib.Dec.{T, eqb, eqb→eq, ltb, ltb→lt, lt→ltb, nltb→le}
 use lib.ListN.{length, getD}
 use borrow.Author.Tests.{le-ltb, lt-ltb}
 use Rattle.base.specs.Lists.{any}
 use Rattle.base.specs.Grid.{Place, Axis, move, same}
-use Rattle.base.proofs.Tests.{and→, →and, or-left, eq→eqb, tests-equal, true→, →true, →false, below}
+use Rattle.base.proofs.Tests.{and→, →and, or-left, eq→eqb, tests-equal, →true, →false}
 use Rattle.rules.specs.Survey.{Survey}
 use Rattle.rules.specs.Edges.{CellEdge, edge, isEdge, divided, undivided, odd, crossed, pointEdges, numberOf, carrier}
 use Rattle.edges.specs.Tables.{edgesOf, lowestLevel, highestLevel, crossedAt}

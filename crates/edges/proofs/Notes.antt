@@ -1,8 +1,8 @@
 -- Noting edges in the tables of levels and upper ends: one edge, those of a cell one after another, those of all cells.
-use Prim.Native.Nat.{ℕ, zero, suc, _+_, _*_, _/_, _^_, _≤_, _<_, min, max}
+use Prim.Native.Nat.{ℕ, zero, suc, _+_, _*_, _/_, _≤_, _<_, min, max}
 use mathlib.Core.Path.{_≡_, refl, sym, ap, _∙_, subst}
 use mathlib.Core.Logic.{_⊎_, inl, inr}
-use mathlib.Core.Bool.{Bool, true, false, _&&_, cond}
+use mathlib.Core.Bool.{Bool, true, false, cond}
 use mathlib.Core.List.{List, [], _∷_, _++_}
 use native.Mathlib.Decide.{ℕ-discrete}
 use native.Mathlib.Omega.{arith}
@@ -21,7 +21,7 @@ use Rattle.rules.specs.Outputs.{rising}
 use Rattle.records.specs.Keys.{placesOf}
 use Rattle.records.proofs.Keys.{Bytes, length-places}
 use Rattle.cells.specs.Laid.{cellAt}
-use Rattle.octants.specs.Octants.{Octant, Octants, octantOf}
+use Rattle.octants.specs.Octants.{Octant, Octants}
 use Rattle.edges.specs.Tables.{cellEdges, edgesOf, startsAt, lowestIn, highestIn, placeAt, Tabled, UpperEnd, FarEnds, Levels}
 use Rattle.edges.proofs.Starts.{→start}
 use Rattle.edges.proofs.Find.{one-record}
@@ -154,7 +154,7 @@ module _ (tk : List ℕ) (b : Bytes tk) (up : rising (placesOf tk) ≡ true) (fe
             rw (r, getD-set-other far (4872 * n + k) (4872 * i + j) new-end 0 s) (t .entry i j p q (omega arith))
 
   -- all three tables, as the code changes them
-  pub note-one : (m : ℕ) → UpperEnd tk (axisOf n) k l m → (es : List CellEdge) (lowest highest far : List ℕ) → Levels tk es lowest highest far →
+  note-one : (m : ℕ) → UpperEnd tk (axisOf n) k l m → (es : List CellEdge) (lowest highest far : List ℕ) → Levels tk es lowest highest far →
       Levels tk (edge (axisOf n) (placeAt (placesOf tk) k) l ∷ es)
       (set lowest (4872 * n + k) (min l (getD lowest (4872 * n + k) 0)))
       (set highest (4872 * n + k) (max l (getD highest (4872 * n + k) 0)))

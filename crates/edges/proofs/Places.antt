@@ -1,23 +1,22 @@
 -- Places of points by corner records.
-use Prim.Native.Nat.{ℕ, _+_, _/_, _%_, _^_, _≤_, _<_}
-use mathlib.Core.Path.{_≡_, refl, sym, ap, _∙_, subst}
+use Prim.Native.Nat.{ℕ, _/_, _%_, _^_, _<_}
+use mathlib.Core.Path.{_≡_, sym, ap, _∙_}
 use mathlib.Core.Bool.{true}
 use mathlib.Core.List.{List}
 use native.Mathlib.Omega.{arith}
 use lib.Dec.{T}
 use lib.Ieee.{Float}
 use lib.ListN.{length, getD}
-use Rattle.base.specs.Lists.{any}
-use Rattle.base.specs.Grid.{Place, Axis, move, axisOf, same}
+use Rattle.base.specs.Grid.{Axis, axisOf}
 use Rattle.rules.specs.Survey.{cornerRecord, cornersOf, placeOf, cornerAt}
-use Rattle.rules.specs.Edges.{CellEdge, edge, spotOn}
+use Rattle.rules.specs.Edges.{edge, spotOn}
 use Rattle.rules.specs.Outputs.{rising, accepted, surveyOf}
 use Rattle.places.specs.Places.{spotBetween}
 use Rattle.places.proofs.Reckoned.{spot-on}
 use Rattle.records.specs.Keys.{keyOf, placesOf, recordAt}
 use Rattle.records.proofs.Keys.{Bytes, record-short, get-place}
 use Rattle.records.proofs.Found.{corner-found}
-use Rattle.edges.specs.Tables.{placeAt, lowestLevel, slotEdge, crossedSlot, Lowest, OddEdge, UpperEnd}
+use Rattle.edges.specs.Tables.{placeAt, slotEdge, crossedSlot, Lowest, UpperEnd}
 use Rattle.edges.proofs.Find.{found-self}
 use Rattle.edges.proofs.Readings.{lowest-read}
 use Rattle.edges.proofs.TwinSlots.{slot-edge, slot-odd-edge}

@@ -1,19 +1,19 @@
 -- The points by slot: the edges that carry points are those of the crossed slots, in rising order, so a point's number is the count of the
 -- crossed slots before its own.
 use Prim.Native.Nat.{ℕ, zero, suc, _+_, _-_, _*_, _/_, _%_, _≤_, _<_}
-use mathlib.Core.Path.{_≡_, refl, sym, ap, _∙_, subst}
+use mathlib.Core.Path.{_≡_, refl, sym, ap, _∙_}
 use mathlib.Core.Logic.{_⊎_, inl, inr}
-use mathlib.Core.Bool.{Bool, true, false, not, _&&_, cond}
-use mathlib.Core.List.{List, [], _∷_, _++_, map, append-nil, append-assoc}
+use mathlib.Core.Bool.{Bool, true, false, _&&_, cond}
+use mathlib.Core.List.{List, [], _∷_, _++_, map, append-nil}
 use native.Mathlib.Omega.{arith}
-use lib.Dec.{T, eqb, eqb→eq, ltb}
+use lib.Dec.{T, eqb, ltb}
 use lib.ListN.{length, getD, drop, length-append, length-map, drop-of-length-le, List·getD-map}
 use lib.Seq.{drop-cons, getD-at}
 use borrow.Author.Tests.{le-ltb, lt-ltb, ne-eqb, eq-eqb}
 use Rattle.base.specs.Lists.{keep, collect, count}
 use Rattle.base.specs.Grid.{Place, origin, Axis, X, Y, Z, axes, axisOf}
-use Rattle.base.proofs.Tests.{true→, →true, below}
-use Rattle.base.proofs.Lists.{In, in-get, get-any, in-keep, in-count}
+use Rattle.base.proofs.Tests.{below}
+use Rattle.base.proofs.Lists.{in-get, get-any, in-keep, in-count}
 use Rattle.rules.specs.Survey.{Survey}
 use Rattle.rules.specs.Edges.{CellEdge, edge, crossed, pointEdges, numberOf}
 use Rattle.rules.specs.Steps.{edgeOf}

@@ -1,30 +1,27 @@
 -- What the code reads from the tables, in the words of the rules; of a survey that is accepted at a clearance.
-use Prim.Native.Nat.{ℕ, zero, suc, _+_, _-_, _*_, _/_, _%_, _^_, _≤_, _<_}
+use Prim.Native.Nat.{ℕ, _+_, _*_, _/_, _%_, _^_, _≤_, _<_}
 use mathlib.Core.Path.{_≡_, refl, sym, ap, _∙_, subst}
-use mathlib.Core.Logic.{_⊎_, inl, inr}
-use mathlib.Core.Bool.{Bool, true, false, not, _&&_, Bool·beq, cond}
+use mathlib.Core.Bool.{Bool, true, false, not, Bool·beq}
 use mathlib.Core.List.{List}
 use native.Mathlib.Omega.{arith}
-use lib.Dec.{T, eqb, ltb}
+use lib.Dec.{T, eqb}
 use lib.Ieee.{Float}
 use lib.ListN.{length, getD}
 use borrow.Author.Tests.{lt-ltb, le-ltb}
-use Rattle.base.specs.Lists.{any, bit}
-use Rattle.base.specs.Grid.{Place, Axis, move, axisOf, same}
-use Rattle.base.proofs.Tests.{→true, true→, either}
+use Rattle.base.specs.Lists.{bit}
+use Rattle.base.specs.Grid.{Axis, move, axisOf}
+use Rattle.base.proofs.Tests.{→true}
 use Rattle.rules.specs.Survey.{cellsOf, cornersOf, wetAt, Survey}
-use Rattle.rules.specs.Edges.{edge, isEdge, odd, carrier, numberOf, pointOf}
-use Rattle.rules.specs.Outputs.{rising, surveyRefusal, accepted, surveyOf}
-use Rattle.records.specs.Keys.{keyOf, placesOf, recordAt}
-use Rattle.records.proofs.Keys.{Bytes, get-place, length-places}
+use Rattle.rules.specs.Edges.{isEdge, odd}
+use Rattle.rules.specs.Outputs.{surveyRefusal, accepted, surveyOf}
+use Rattle.records.specs.Keys.{keyOf, placesOf}
+use Rattle.records.proofs.Keys.{get-place, length-places}
 use Rattle.records.proofs.Search.{keyAt}
 use Rattle.octree.proofs.Accepted.{accepted→, lawful}
-use Rattle.octree.proofs.Halves.{one-odd-half}
-use Rattle.edges.specs.Tables.{placeAt, lowestLevel, crossedAt, crossedSlot, slotsBelow, slotEdge, Lowest, Far, Wets, Numbers, UpperEnd}
+use Rattle.edges.specs.Tables.{placeAt, lowestLevel, crossedSlot, Lowest, Far, Wets, UpperEnd}
 use Rattle.edges.specs.Noting.{keyUnit, Corners}
-use Rattle.edges.proofs.Find.{key-move, found}
-use Rattle.edges.proofs.Levels.{Edged, edge→levels, lowest-edge, carrier-here, carrier-below, halves-below}
-use Rattle.edges.proofs.Points.{slot-is, edge-is, slot-number}
+use Rattle.edges.proofs.Find.{key-move}
+use Rattle.edges.proofs.Levels.{Edged, lowest-edge}
 use Rattle.edges.proofs.Lawfully.{edged}
 use Rattle.edges.proofs.Surveyed.{corners-known, corners-few}
 

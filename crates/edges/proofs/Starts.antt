@@ -2,7 +2,7 @@
 use Prim.Native.Nat.{ℕ, _+_, _^_, _≤_, _<_, min, max}
 use mathlib.Core.Path.{_≡_, refl, sym, ap, _∙_, subst}
 use mathlib.Core.Logic.{_⊎_, inl, inr}
-use mathlib.Core.Bool.{Bool, true, false, _&&_, cond}
+use mathlib.Core.Bool.{Bool, true, false, cond}
 use mathlib.Core.List.{List, [], _∷_}
 use native.Mathlib.Omega.{arith}
 use lib.Dec.{T, eqb, eqb-refl}
@@ -31,7 +31,7 @@ module _ (l : ℕ) (p : Place) where
   next-corner b q f e = put-one (λ d n. (n ≡ along d p) ⊎ (n ≡ along d p + 2 ^ l)) b (along b q + 2 ^ l) q (inr (ap (λ n. n + 2 ^ l) e)) f
 
   -- the four corners in its lower side on an axis
-  pub square-corner : (a : Axis) (q : Place) → In q (square a (2 ^ l) p) → (along a q ≡ along a p) × CornerOf l p q
+  square-corner : (a : Axis) (q : Place) → In q (square a (2 ^ l) p) → (along a q ≡ along a p) × CornerOf l p q
   square-corner a q = go
     where
       up : Place

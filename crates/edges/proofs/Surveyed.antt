@@ -1,6 +1,6 @@
 -- What a survey without refusal gives the code: sizes of the tables, rising keys, and small keys of the corner records.
-use Prim.Native.Nat.{ℕ, _+_, _*_, _/_, _%_, _^_, _≤_, _<_}
-use mathlib.Core.Path.{_≡_, refl, sym, ap, _∙_, subst}
+use Prim.Native.Nat.{ℕ, _/_, _%_, _^_, _≤_, _<_}
+use mathlib.Core.Path.{_≡_, sym, ap, _∙_, subst}
 use mathlib.Core.Bool.{Bool, true, false, not, _||_}
 use mathlib.Core.List.{List, []}
 use native.Mathlib.Omega.{arith}
@@ -17,7 +17,7 @@ use Rattle.base.proofs.Places.{same-refl}
 use Rattle.records.proofs.Keys.{length-places}
 use Rattle.rules.specs.Survey.{cellsOf}
 use Rattle.rules.specs.Edges.{isEdge}
-use Rattle.rules.specs.Outputs.{badTable, rising, surveyRefusal, surveyOf}
+use Rattle.rules.specs.Outputs.{rising, surveyRefusal, surveyOf}
 use Rattle.records.specs.Keys.{keyOf, placesOf}
 use Rattle.octree.proofs.Lawful.{Octree}
 use Rattle.octree.proofs.Tree.{octree-of}

@@ -1,24 +1,22 @@
 -- A point by its slot: the odd edge that carries it, and its twin as the end of a climb from there.
-use Prim.Native.Nat.{ℕ, _+_, _*_, _/_, _%_, _≤_, _<_}
+use Prim.Native.Nat.{ℕ, _/_, _%_, _≤_, _<_}
 use mathlib.Core.Path.{_≡_, refl, sym, ap, _∙_, subst}
 use mathlib.Core.Logic.{_⊎_, inl, inr}
-use mathlib.Core.Bool.{Bool, true, false}
+use mathlib.Core.Bool.{true}
 use mathlib.Core.List.{List}
 use native.Mathlib.Omega.{arith}
 use lib.Dec.{T}
 use lib.Ieee.{Float}
 use lib.ListN.{length, getD}
-use Rattle.base.specs.Grid.{Place, origin, Axis, X, axisOf}
-use Rattle.base.proofs.Tests.{→true, true→, below}
+use Rattle.base.specs.Grid.{origin, X, axisOf}
+use Rattle.base.proofs.Tests.{below}
 use Rattle.base.proofs.Lists.{get-any}
-use Rattle.rules.specs.Survey.{cellsOf, cornersOf, wetAt, Survey}
-use Rattle.rules.specs.Edges.{CellEdge, edge, odd, pointEdges}
+use Rattle.rules.specs.Survey.{Survey}
+use Rattle.rules.specs.Edges.{CellEdge, edge, pointEdges}
 use Rattle.rules.specs.Steps.{twin, edgeOf, numberElse, twinOf}
 use Rattle.rules.specs.Outputs.{accepted, surveyOf}
 use Rattle.records.specs.Keys.{placesOf}
-use Rattle.records.proofs.Keys.{length-places}
-use Rattle.edges.specs.Tables.{placeAt, lowestLevel, crossedSlot, slotsBelow, slotEdge, Lowest, Far, Slots, Twins, OddEdge, UpperEnd}
-use Rattle.edges.proofs.Levels.{Edged}
+use Rattle.edges.specs.Tables.{placeAt, lowestLevel, crossedSlot, slotsBelow, slotEdge, Lowest, Far, Slots, OddEdge, UpperEnd}
 use Rattle.edges.proofs.Points.{edge-of, point-edge, point-count, below-in}
 use Rattle.edges.proofs.Readings.{edges-law, few-places, outside, empty, low-edge, crossed-odd, lowest-read, far-read}
 use Rattle.edges.proofs.Numbering.{below-le}

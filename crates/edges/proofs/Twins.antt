@@ -1,10 +1,10 @@
 -- The climb to a point's twin, turn by turn, of a survey that is accepted at a clearance.
-use Prim.Native.Nat.{ℕ, zero, suc, _+_, _-_, _*_, _/_, _^_, _≤_, _<_}
+use Prim.Native.Nat.{ℕ, zero, suc, _+_, _*_, _/_, _^_, _≤_, _<_}
 use mathlib.Core.Path.{_≡_, refl, sym, ap, _∙_, subst}
 use mathlib.Core.Logic.{_⊎_, inl, inr}
-use mathlib.Core.Bool.{Bool, true, false, not, _||_, cond}
+use mathlib.Core.Bool.{Bool, true, false, cond}
 use mathlib.Core.List.{List}
-use mathlib.Core.Option.{none, some}
+use mathlib.Core.Option.{none}
 use native.Mathlib.Omega.{arith}
 use lib.Dec.{T}
 use lib.Ieee.{Float}
@@ -13,14 +13,14 @@ use Rattle.base.specs.Lists.{any}
 use Rattle.base.specs.Grid.{Place, Axis, along, move, back, axisOf, same}
 use Rattle.base.proofs.Tests.{→true, true→, either, or-left, or-right}
 use Rattle.rules.specs.Survey.{cellsOf, cornersOf, wetAt, Survey}
-use Rattle.rules.specs.Edges.{edge, isEdge, divided, odd, carrier, pointOf}
+use Rattle.rules.specs.Edges.{edge, isEdge, divided, odd, pointOf}
 use Rattle.rules.specs.Steps.{isUpper, above, other, twin, numberElse}
 use Rattle.rules.specs.Outputs.{accepted, surveyOf}
 use Rattle.records.specs.Keys.{keyOf, placesOf, recordAt}
 use Rattle.records.proofs.Keys.{Bytes, Short, length-places}
 use Rattle.records.proofs.Found.{found-listed}
 use Rattle.octree.proofs.Halves.{move-move}
-use Rattle.edges.specs.Tables.{placeAt, lowestLevel, highestLevel, Lowest, Highest, OddEdge, UpperEnd, Sought, Risen}
+use Rattle.edges.specs.Tables.{placeAt, highestLevel, Lowest, Highest, OddEdge, UpperEnd, Sought, Risen}
 use Rattle.edges.proofs.Find.{found}
 use Rattle.edges.proofs.Levels.{Edged, edge→levels, levels→edge}
 use Rattle.edges.proofs.Readings.{corners, edges-law, lowest-read}
@@ -28,7 +28,7 @@ use Rattle.edges.proofs.Climbing.{upper-room, twin-none, twin-up, twin-
 
 -- The other half of an even edge above an odd one is an odd edge.
 module _ (s : Survey) (laws : Edged s) (a : Axis) (p : Place) (l : ℕ) (t : T (isEdge (s .cells) a p l)) (o : T (odd (s .isWet) a p l)) where
-  pub other-odd : T (isEdge (s .cells) a (above a p l) (suc l)) → odd (s .isWet) a (above a p l) (suc l) ≡ false →
+  other-odd : T (isEdge (s .cells) a (above a p l) (suc l)) → odd (s .isWet) a (above a p l) (suc l) ≡ false →
       T (isEdge (s .cells) a (other a p l) l) × T (odd (s .isWet) a (other a p l) l)
   unfolding divided
   other-odd = go (isUpper a p l) (upper-room a p l)
@@ -62,7 +62,7 @@ module _ (tc tk : List ℕ) (clearance : Float) (ok : accepted tc tk clearance �
   abbrev at : ℕ → Place
   at k = placeAt (placesOf tk) k
 
-  pub highest-read : (highest : List ℕ) → Highest tc tk highest → (n k i : ℕ) → i ≡ 4872 * n + k → n < 3 → k < length tk / 10 →
+  highest-read : (highest : List ℕ) → Highest tc tk highest → (n k i : ℕ) → i ≡ 4872 * n + k → n < 3 → k < length tk / 10 →
       getD highest i 0 ≡ highestLevel (surveyOf tc tk clearance) (axisOf n) (placeAt (placesOf tk) k)
   unfolding highestLevel surveyOf
   highest-read highest t n k i e g h = ap (λ j. getD highest j 0) e ∙ t .entry n k g (omega (arith, length-places tk))
@@ -127,7 +127,8 @@ module _ (tc tk : List ℕ) (clearance : Float) (ok : accepted tc tk clearance �
 
   module _ (a : Axis) (k l : ℕ) where
     -- an upper half: the edge above ends where the half does, and starts where its other half does
-    pub risen-upper : (w r : ℕ) → isUpper a (placeAt (placesOf tk) k) l ≡ true → UpperEnd tk a k l w → Sought tc tk a (above a (placeAt (placesOf tk) k) l) (suc l) r →
+    pub risen-upper : (w r : ℕ) → isUpper a (placeAt (placesOf tk) k) l ≡ true → UpperEnd tk a k l w →
+        Sought tc tk a (above a (placeAt (placesOf tk) k) l) (suc l) r →
         Risen tc tk a k l r w r
     risen-upper w r h u f = record {
       sought = f;
@@ -147,7 +148,8 @@ module _ (tc tk : List ℕ) (clearance : Float) (ok : accepted tc tk clearance �
       pub start-same : placeAt (placesOf tk) k ≡ above a (placeAt (placesOf tk) k) l
       start-same = ap (λ b. cond b (back a (2 ^ l) (at k)) (at k)) (sym h)
 
-      pub risen-lower : (w v : ℕ) → UpperEnd tk a k l w → UpperEnd tk a w l v → Sought tc tk a (above a (placeAt (placesOf tk) k) l) (suc l) k → Risen tc tk a k l k v w
+      pub risen-lower : (w v : ℕ) → UpperEnd tk a k l w → UpperEnd tk a w l v → Sought tc tk a (above a (placeAt (placesOf tk) k) l) (suc l) k →
+          Risen tc tk a k l k v w
       risen-lower w v u y f = record {
         sought = f;
         upper = λ g. record { inside = y .inside; place = y .place ∙ ap (move a (2 ^ l)) (u .place) ∙ move-move a l (at k) };

@@ -6,7 +6,6 @@ ghost use Rattle.base.specs.Grid.{axisOf};
 ghost use Rattle.rules.specs.Outputs.{accepted};
 ghost use Rattle.octants.specs.Octants.{Octants};
 ghost use Rattle.edges.specs.Tables.{CellLevels, Lowest, Highest, Far, Wets};
-ghost use Rattle.rules.specs.Outputs.{enquiry};
 ghost use Rattle.edges.specs.Enquiry.{edgeAnswer};
 use super::ends;
 use rules::Answer;

@@ -70,7 +70,8 @@ pub fn carrier_slot(
     requires { ⌜ Lowest (now cells) (now corners) (now lowest) ⌝ }
     requires { ⌜ Far (now cells) (now corners) (now far) ⌝ }
     requires { ⌜ (axis < 3) × OddEdge (now cells) (now corners) clearance (axisOf axis) start top ⌝ }
-    ensures { λ r. ⌜ CarrierSlot (surveyOf (now (cells .entry)) (now (corners .entry)) clearance) (axisOf axis) (placeAt (placesOf (now (corners .entry))) start) top r ⌝ }
+    ensures { λ r. ⌜ CarrierSlot (surveyOf (now (cells .entry)) (now (corners .entry)) clearance) (axisOf axis)
+        (placeAt (placesOf (now (corners .entry))) start) top r ⌝ }
 {
     let mut k = start;
     let mut level = top;

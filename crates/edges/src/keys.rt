@@ -1,12 +1,10 @@
 // Levels, lengths and keys as numbers.
 ghost use mathlib.Core.Path.{_≡_};
-ghost use mathlib.Core.Bool.{true, cond};
+ghost use mathlib.Core.Bool.{cond};
 ghost use Prim.Native.Nat.{_+_, _-_, _*_, _^_, _≤_, _<_, min, max};
 ghost use lib.Dec.{ltb};
-ghost use lib.ListN.{length};
 ghost use Rattle.base.specs.Lists.{bit};
 ghost use Rattle.base.specs.Grid.{axisOf};
-ghost use Rattle.rules.specs.Edges.{edge};
 ghost use Rattle.edges.specs.Noting.{keyUnit};
 ghost use Rattle.rules.specs.Outputs.{levelOf};
 
@@ -30,7 +28,8 @@ pub fn higher(a: u8, b: u8) -> u8
     a
 }
 
-// The upper end of the edge of the lower of two levels: of one with this level and end, and of one with the level and end that are known; those where they are equal.
+// The upper end of the shorter of two edges from one place: of one with this level and end, and of one whose level and end are known. Of two of the
+// same level the known end.
 pub fn end_of_lower(level: u8, end: u16, low: u8, known: u16) -> u16
     ensures { λ r. ⌜ r ≡ cond (ltb level low) end known ⌝ }
 {

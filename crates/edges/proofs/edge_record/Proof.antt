@@ -1,13 +1,8 @@
 -- `edges::edge_record` meets its contract: the record at the place, and the levels there, say whether some cell has the edge.
 use Rattle.edges.proofs.Twins.{nowhere, at-place, sought-miss, sought-hit}
 use Rattle.edges.proofs.Readings.{corners}
-use Rattle.records.proofs.Keys.{Short}
-use Rattle.records.specs.Keys.{keyOf}
-use Rattle.base.specs.Grid.{Place, axisOf}
-use lib.ListN.{length}
+use Rattle.base.specs.Grid.{axisOf}
 use mathlib.Core.Logic.{inl, inr}
-use Prim.Native.Nat.{ℕ, _+_, _*_, _/_, _<_, _≤_}
-use mathlib.Core.Path.{_≡_, refl, sym, ap, _∙_}
 use native.Mathlib.Omega.{arith}
 use borrow.Author.Needs.{needs}
 use Rattle.edges.proofs.edge_record.Statement.{statement}

@@ -5,7 +5,7 @@ use Rattle.edges.proofs.Readings.{no-refusal}
 use Rattle.edges.specs.Enquiry.{edgeAnswer}
 use Rattle.rules.specs.Outputs.{levelOf}
 use Rattle.base.specs.Grid.{Place, X, Y, Z, axisOf}
-use mathlib.Core.Path.{_≡_, refl, sym, ap, _∙_}
+use mathlib.Core.Path.{ap, _∙_}
 use native.Mathlib.Omega.{arith}
 use borrow.Author.Needs.{needs}
 use Rattle.edges.proofs.enquire.Statement.{statement}

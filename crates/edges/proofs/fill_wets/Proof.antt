@@ -3,8 +3,8 @@ use Rattle.edges.proofs.Filled.{filled-more, wets-done}
 use Rattle.rules.specs.Survey.{cornerRecord, wet}
 use Rattle.base.specs.Lists.{bit}
 use lib.ListN.{length, getD, length-set}
-use Prim.Native.Nat.{ℕ, _+_, _-_, _/_, _≤_, _<_}
-use mathlib.Core.Path.{_≡_, sym, ap, _∙_}
+use Prim.Native.Nat.{ℕ, _-_, _≤_, _<_}
+use mathlib.Core.Path.{_≡_, ap, _∙_}
 use native.Mathlib.Omega.{arith}
 use borrow.Author.Needs.{needs}
 use Rattle.edges.proofs.fill_wets.Statement.{statement}

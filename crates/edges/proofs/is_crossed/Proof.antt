@@ -1,8 +1,8 @@
 -- `edges::is_crossed` meets its contract: no record, no edge, or an edge whose parity decides.
-use Prim.Native.Nat.{_+_, _*_, _/_, _%_, _≤_, _<_}
-use mathlib.Core.Path.{_≡_, sym, ap, _∙_}
+use Prim.Native.Nat.{_/_, _%_, _<_}
+use mathlib.Core.Path.{sym, _∙_}
 use native.Mathlib.Omega.{arith}
-use lib.ListN.{length, getD}
+use lib.ListN.{getD}
 use Rattle.base.specs.Grid.{axisOf}
 use Rattle.edges.specs.Tables.{UpperEnd}
 use Rattle.edges.proofs.Readings.{corners, outside, empty, crossed-odd, odd-read, far-read}

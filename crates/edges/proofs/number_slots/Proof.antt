@@ -2,15 +2,16 @@
 use Rattle.edges.proofs.Numbering.{Numbered, number-none, number-next, numbers-done, slots-done, count-done}
 use Rattle.edges.proofs.Readings.{edges-law, few-places}
 use Rattle.rules.specs.Outputs.{surveyOf}
-use Prim.Native.Nat.{ℕ, _+_, _-_, _≤_}
-use mathlib.Core.Path.{_≡_, sym, ap, _∙_}
+use Prim.Native.Nat.{_-_}
+use mathlib.Core.Path.{_≡_}
 use native.Mathlib.Omega.{arith}
 use borrow.Author.Needs.{needs}
 use Rattle.edges.proofs.number_slots.Statement.{statement}
 use Rattle.edges.proofs.number_slots.Tie as tie
 
 abbrev Inv-loop : tie.InvT-loop
-Inv-loop cells corners clearance wets lowest far numbers₀ slots₀ n₀ slot₀ numbers slots n slot = Numbered (surveyOf cells corners clearance) numbers slots n slot
+Inv-loop cells corners clearance wets lowest far numbers₀ slots₀ n₀ slot₀ numbers slots n slot =
+    Numbered (surveyOf cells corners clearance) numbers slots n slot
 
 abbrev μ-loop : tie.MeasureT-loop
 μ-loop cells corners clearance wets lowest far numbers₀ slots₀ n₀ slot₀ numbers slots n slot = 14616 - slot

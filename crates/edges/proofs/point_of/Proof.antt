@@ -3,7 +3,6 @@ use mathlib.Core.Path.{_∙_}
 use native.Mathlib.Omega.{arith}
 use Rattle.base.specs.Grid.{axisOf}
 use Rattle.edges.proofs.Descent.{slot-point-of}
-use borrow.Author.Needs.{needs}
 use Rattle.edges.proofs.point_of.Statement.{statement}
 use Rattle.edges.proofs.point_of.Tie as tie
 

@@ -1,6 +1,6 @@
 -- `edges::slot_point` meets its contract: the edge of a crossed slot, as the tables have it.
-use Prim.Native.Nat.{_+_, _*_, _/_, _%_, _≤_, _<_}
-use mathlib.Core.Path.{_≡_, ap, _∙_}
+use Prim.Native.Nat.{_/_, _%_}
+use mathlib.Core.Path.{ap, _∙_}
 use native.Mathlib.Omega.{arith}
 use lib.ListN.{getD}
 use Rattle.base.specs.Grid.{axisOf}

@@ -1,5 +1,5 @@
 -- `edges::write_points` meets its contract: before each turn the places of the points passed are written, and nothing behind them is touched.
-use Prim.Native.Nat.{ℕ, _+_, _-_, _*_, _≤_, _<_}
+use Prim.Native.Nat.{_-_, _≤_, _<_}
 use mathlib.Core.Path.{_≡_, refl, sym, ap, _∙_}
 use mathlib.Core.List.{List}
 use native.Mathlib.Omega.{arith}
@@ -112,7 +112,8 @@ loop-again c =
       omega arith,
       ap length e ∙ stored-length (l .loop .points) (l .loop .v) (asSpot (p .result)) ∙ l .loop .inv .2,
       e ∙ ap (withSpot (l .loop .points) (l .loop .v)) (p .ensures ∙ ap f
-          (sym (point-edge-is tc tk x (s .pre .0) (s .args .lowest .now) (s .pre .1 .0) (s .args .slots .now) (s .pre .1 .1 .1 .0) (l .loop .v) (point-inside t) d))) ∙
+          (sym (point-edge-is tc tk x (s .pre .0) (s .args .lowest .now) (s .pre .1 .0) (s .args .slots .now) (s .pre .1 .1 .1 .0) (l .loop .v)
+          (point-inside t) d))) ∙
           written-turn f es (l .loop .v) d (s .args .points .now) (l .loop .points) (omega (arith, last .0)) (omega (arith, last .0, last .1))
           (l .loop .inv .3),
     )

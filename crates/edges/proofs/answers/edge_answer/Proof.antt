@@ -1,5 +1,5 @@
 -- `edges::answers::edge_answer` meets its contract: by cases: no cell has the edge, it is even, it is odd.
-use Prim.Native.Nat.{ℕ, _<_, _/_}
+use Prim.Native.Nat.{_<_, _/_}
 use mathlib.Core.Path.{_≡_, sym, ap, _∙_, subst}
 use mathlib.Core.Bool.{Bool, true, false, not}
 use native.Mathlib.Omega.{arith}
@@ -32,7 +32,8 @@ sought : (f : tie.After-edge-record) →
     Sought (start f .args .cells .now) (start f .args .corners .now) (axisOf (start f .args .axis)) (place f) (start f .args .level) (f .edge-record .result)
 sought f =
     let s = start f in
-    f .edge-record .ensures (place f) (record { x-fits = omega (arith, s .fits .x); y-fits = omega (arith, s .fits .y) }) (key-is (s .args .x) (s .args .y) (s .args .z))
+    f .edge-record .ensures (place f) (record { x-fits = omega (arith, s .fits .x); y-fits = omega (arith, s .fits .y) }) (key-is (s .args .x)
+    (s .args .y) (s .args .z))
 
 -- the edge is there
 module _ (c : tie.Else1) where
@@ -42,7 +43,8 @@ module _ (c : tie.Else1) where
   inside : c .before .edge-record .result < length (start (c .before) .args .corners .now) / 10
   inside = omega arith
 
-  here : T (isEdge (cellsOf (start (c .before) .args .cells .now)) (axisOf (start (c .before) .args .axis)) (place (c .before)) (start (c .before) .args .level)) ×
+  here : T (isEdge (cellsOf (start (c .before) .args .cells .now)) (axisOf (start (c .before) .args .axis)) (place (c .before))
+      (start (c .before) .args .level)) ×
       (placeAt (placesOf (start (c .before) .args .corners .now)) (c .before .edge-record .result) ≡ place (c .before))
   here = sought f .found inside
 
@@ -55,7 +57,8 @@ found u = u .before .before
 
 -- its parity, by the marks at its ends
 parity : (u : tie.After-upper-end) (b : Bool) →
-    not (eqb (getD (start (found u) .args .wets .now) (found u .edge-record .result) 0) (getD (start (found u) .args .wets .now) (u .upper-end .result) 0)) ≡ b →
+    not (eqb (getD (start (found u) .args .wets .now) (found u .edge-record .result) 0)
+    (getD (start (found u) .args .wets .now) (u .upper-end .result) 0)) ≡ b →
     odd (wetAt (cornersOf (start (found u) .args .corners .now)) (start (found u) .args .clearance)) (axisOf (start (found u) .args .axis))
     (placeAt (placesOf (start (found u) .args .corners .now)) (found u .edge-record .result)) (start (found u) .args .level) ≡ b
 parity u b d =
@@ -84,8 +87,8 @@ is-odd : (c : tie.Else2) →
 is-odd c = parity (ended c) true (ap not (ne-eqb _ _ (c .if2 .left)))
 
 odd-edge : (c : tie.Else2) →
-    OddEdge (entry c .args .cells .now) (entry c .args .corners .now) (entry c .args .clearance) (axisOf (entry c .args .axis)) (found (ended c) .edge-record .result)
-    (entry c .args .level)
+    OddEdge (entry c .args .cells .now) (entry c .args .corners .now) (entry c .args .clearance) (axisOf (entry c .args .axis))
+    (found (ended c) .edge-record .result) (entry c .args .level)
 odd-edge c = record { inside = inside (ended c .before); is-edge = is-edge (ended c .before); is-odd = →true (is-odd c) }
 
 mul-key : tie.Need-mul-key
@@ -125,7 +128,13 @@ shared-slice-read-if2-2 : tie.Need-shared-slice-read-if2-2
 shared-slice-read-if2-2 c =
     let u = c .before .before in
     let s = start (found u) in
-    omega (arith, u .upper-end .ensures .inside, s .pre .1 .0 .size, corners (s .args .cells .now) (s .args .corners .now) (s .args .clearance) (s .pre .0) .few)
+    omega (
+      arith,
+      u .upper-end .ensures .inside,
+      s .pre .1 .0 .size,
+      corners (s .args .cells .now) (s .args .corners .now) (s .args .clearance)
+          (s .pre .0) .few,
+    )
 
 returns-2 : tie.Need-returns-2
 returns-2 c =

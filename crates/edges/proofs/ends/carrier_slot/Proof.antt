@@ -1,5 +1,6 @@
--- `edges::ends::carrier_slot` meets its contract: before each turn the edge at hand is odd and has the same carrier as the first; at the lowest level it is its own.
-use Prim.Native.Nat.{ℕ, suc, _+_, _-_, _≤_, _/_, _<_}
+-- `edges::ends::carrier_slot` meets its contract: before each turn the edge at hand is odd and has the same carrier as the first; at the lowest
+-- level it is its own.
+use Prim.Native.Nat.{suc, _-_, _≤_, _<_}
 use mathlib.Core.Path.{_≡_, refl, _∙_}
 use native.Mathlib.Omega.{arith}
 use lib.ListN.{length}

@@ -1,5 +1,5 @@
 -- `edges::ends::edge_point` meets its contract: the two records are the corners at the ends of the edge.
-use mathlib.Core.Path.{_≡_, _∙_}
+use mathlib.Core.Path.{_∙_}
 use native.Mathlib.Omega.{arith}
 use Rattle.base.specs.Grid.{axisOf}
 use Rattle.places.specs.Places.{spotBetween}

@@ -4,7 +4,7 @@ use Rattle.rules.specs.declared.Corner.{Corner}
 use Rattle.rules.specs.Survey.{placeOf}
 use Rattle.base.specs.Grid.{axisOf, along}
 use lib.Pow.{pow-pos}
-use mathlib.Core.Path.{_≡_, refl, sym, ap, _∙_}
+use mathlib.Core.Path.{ap, _∙_}
 use native.Mathlib.Omega.{arith}
 use borrow.Author.Needs.{needs}
 use Rattle.edges.proofs.ends.is_upper.Statement.{statement}

@@ -1,10 +1,9 @@
 -- `edges::ends::upper_end` meets its contract: the table's entry where the level is the lowest, else the record found by the key of the upper end.
-use Prim.Native.Nat.{ℕ, _+_, _*_, _/_, _^_, _≤_, _<_}
-use mathlib.Core.Path.{_≡_, refl, sym, ap, _∙_, subst}
+use Prim.Native.Nat.{ℕ, _+_, _*_, _≤_, _<_}
+use mathlib.Core.Path.{_≡_, refl, ap, _∙_, subst}
 use native.Mathlib.Omega.{arith}
-use lib.Dec.{T}
-use lib.ListN.{length, getD}
-use Rattle.base.specs.Grid.{axisOf, move}
+use lib.ListN.{getD}
+use Rattle.base.specs.Grid.{axisOf}
 use Rattle.records.proofs.Keys.{get-place}
 use Rattle.records.specs.Keys.{keyOf, placesOf, recordAt}
 use Rattle.edges.specs.Tables.{placeAt, UpperEnd}

@@ -1,5 +1,4 @@
 -- `edges::keys::end_of_lower` meets its contract: by cases on the test.
-use Prim.Native.Nat.{_≤_}
 use native.Mathlib.Omega.{arith}
 use borrow.Author.Tests.{lt-ltb, le-ltb}
 use Rattle.edges.proofs.keys.end_of_lower.Statement.{statement}

@@ -2,10 +2,9 @@
 use Rattle.edges.proofs.Enquiring.{levelFrom, level-start, level-hit, level-miss}
 use Rattle.cells.proofs.Octants.{size-fits}
 use Rattle.rules.specs.Outputs.{levelOf}
-use native.Mathlib.Numerals.{add-one}
 use native.Mathlib.Nat.{pow-succ'}
-use Prim.Native.Nat.{ℕ, suc, _+_, _-_, _*_, _^_, _≤_}
-use mathlib.Core.Path.{_≡_, refl, sym, ap, _∙_, subst}
+use Prim.Native.Nat.{suc, _+_, _-_, _*_, _^_, _≤_}
+use mathlib.Core.Path.{_≡_, refl, sym, ap, _∙_}
 use native.Mathlib.Omega.{arith}
 use borrow.Author.Needs.{needs}
 use Rattle.edges.proofs.keys.level_of.Statement.{statement}

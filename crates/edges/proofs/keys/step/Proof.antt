@@ -1,7 +1,6 @@
 -- `edges::keys::step` meets its contract: the sum fits, since the length is at most 1,024.
 use Rattle.edges.proofs.Find.{step-fits}
-use Prim.Native.Nat.{ℕ, _+_, _*_, _^_, _≤_}
-use mathlib.Core.Path.{_≡_, ap, _∙_}
+use Prim.Native.Nat.{_+_, _*_, _≤_}
 use native.Mathlib.Omega.{arith}
 use borrow.Author.Needs.{needs}
 use Rattle.edges.proofs.keys.step.Statement.{statement}

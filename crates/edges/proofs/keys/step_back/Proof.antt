@@ -1,7 +1,6 @@
 -- `edges::keys::step_back` meets its contract: the difference does not wrap, since the place has room.
 use Rattle.edges.proofs.Find.{step-fits}
-use Prim.Native.Nat.{ℕ, _-_, _*_, _^_, _≤_}
-use mathlib.Core.Path.{_≡_, refl, sym, ap, _∙_}
+use Prim.Native.Nat.{_-_, _*_, _≤_}
 use native.Mathlib.Omega.{arith}
 use borrow.Author.Needs.{needs}
 use Rattle.edges.proofs.keys.step_back.Statement.{statement}

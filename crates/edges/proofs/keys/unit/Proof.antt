@@ -1,6 +1,5 @@
 -- `edges::keys::unit` meets its contract: each test picks its axis.
 use lib.Dec.{lit≤}
-use native.Mathlib.Omega.{arith}
 use Rattle.edges.proofs.Find.{axis-z}
 use borrow.Author.Needs.{needs}
 use Rattle.edges.proofs.keys.unit.Statement.{statement}

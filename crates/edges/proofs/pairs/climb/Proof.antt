@@ -1,4 +1,5 @@
--- `edges::pairs::climb` meets its contract: before each turn the edge at hand is odd and the twin of its point is the twin sought; one more level is left than the climb can take.
+-- `edges::pairs::climb` meets its contract: before each turn the edge at hand is odd and the twin of its point is the twin sought; one more level is
+-- left than the climb can take.
 use Prim.Native.Nat.{ℕ, suc, _+_, _-_, _/_, _≤_, _<_}
 use mathlib.Core.Path.{_≡_, refl, sym, ap, _∙_, subst}
 use mathlib.Core.Bool.{Bool, true, false, not}
@@ -13,7 +14,6 @@ use Rattle.records.specs.Keys.{placesOf}
 use Rattle.edges.specs.Tables.{placeAt, UpperEnd}
 use Rattle.edges.proofs.Readings.{corners, odd-read}
 use Rattle.edges.proofs.Twins.{Climbed, climb-ends, above-level, climb-on, other-edge, climb-turns}
-use borrow.Author.Needs.{needs}
 use Rattle.edges.proofs.pairs.climb.Statement.{statement}
 use Rattle.edges.proofs.pairs.climb.Tie as tie
 
@@ -49,7 +49,8 @@ module _ (e : tie.After-edge-above Inv-loop μ-loop) where
 
   level-above : There e → suc (e .before .loop .level) ≤ 10
   level-above h =
-      above-level (s .args .cells .now) (s .args .corners .now) (s .args .clearance) (s .pre .0) (axisOf (s .args .axis)) (s .args .start) (s .args .bottom) _ _ _ _ _
+      above-level (s .args .cells .now) (s .args .corners .now) (s .args .clearance) (s .pre .0) (axisOf (s .args .axis)) (s .args .start)
+      (s .args .bottom) _ _ _ _ _
       (s .args .v) (e .before .loop .inv .0) (e .edge-above .ensures) h
 
   parity : There e → (b : Bool) → differ e ≡ b →
@@ -79,7 +80,8 @@ returns : tie.Need-returns Inv-loop μ-loop
 returns c =
     let e = c .before in
     let s = entry e in
-    climb-ends (s .args .cells .now) (s .args .corners .now) (s .args .clearance) (s .pre .0) (axisOf (s .args .axis)) (s .args .start) (s .args .bottom) _ _ _ _ _
+    climb-ends (s .args .cells .now) (s .args .corners .now) (s .args .clearance) (s .pre .0) (axisOf (s .args .axis)) (s .args .start)
+    (s .args .bottom) _ _ _ _ _
     (s .args .v) (e .before .loop .inv .0) (e .edge-above .ensures) (omega (arith, e .before .loop .inv .2))
 
 there : (c : tie.Else1 Inv-loop μ-loop) → There (c .before)

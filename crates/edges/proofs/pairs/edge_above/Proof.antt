@@ -1,16 +1,14 @@
--- `edges::pairs::edge_above` meets its contract: an upper half's edge above is sought by the key of its start; a lower half's starts at the same record, and the
+-- `edges::pairs::edge_above` meets its contract: an upper half's edge above is sought by the key of its start; a lower half's starts at the same
+-- record, and the
 -- levels there say whether some cell has it.
-use Prim.Native.Nat.{ℕ, suc, _+_, _*_, _/_, _≤_, _<_}
+use Prim.Native.Nat.{ℕ, suc, _+_, _*_, _≤_}
 use mathlib.Core.Path.{_≡_, sym, ap, _∙_, subst}
 use mathlib.Core.Logic.{inr}
-use mathlib.Core.Bool.{true, false}
+use mathlib.Core.Bool.{false}
 use mathlib.Core.List.{List}
 use native.Mathlib.Omega.{arith}
-use lib.Dec.{T}
-use lib.ListN.{length, getD}
-use Rattle.base.specs.Grid.{Place, Axis, axisOf}
-use Rattle.rules.specs.Survey.{cellsOf}
-use Rattle.rules.specs.Edges.{isEdge}
+use lib.ListN.{getD}
+use Rattle.base.specs.Grid.{axisOf}
 use Rattle.rules.specs.Steps.{isUpper, above}
 use Rattle.records.specs.Keys.{keyOf, placesOf}
 use Rattle.records.proofs.Keys.{get-place}
@@ -49,7 +47,8 @@ module _ (s : tie.Start) where
 abbrev start : tie.Else1 → tie.Start
 start c = c .before .before .before .before .before .before .before
 
-lower : (c : tie.Else1) → isUpper (axisOf (start c .args .axis)) (placeAt (placesOf (start c .args .corners .now)) (start c .args .k)) (start c .args .level) ≡ false
+lower : (c : tie.Else1) →
+    isUpper (axisOf (start c .args .axis)) (placeAt (placesOf (start c .args .corners .now)) (start c .args .k)) (start c .args .level) ≡ false
 lower c = sym (c .before .is-upper .ensures) ∙ c .if1 .left
 
 is-upper-requires : tie.Need-is-upper-requires
@@ -63,7 +62,8 @@ key-at-requires c κs = search needs
 step-back-requires : tie.Need-step-back-requires
 step-back-requires c κs =
     let s = c .before .before .before .before .before .before .before .before in (
-      back-room (axisOf (s .args .axis)) _ (s .args .level) _ (key-is s _ (c .key-at .ensures)) (sym (c .before .before .is-upper .ensures) ∙ c .before .if1 .taken),
+      back-room (axisOf (s .args .axis)) _ (s .args .level) _ (key-is s _ (c .key-at .ensures))
+          (sym (c .before .before .is-upper .ensures) ∙ c .before .if1 .taken),
       level-low s,
     )
 
@@ -110,7 +110,8 @@ returns-2 c =
     let k = s .args .k in
     let l = s .args .level in
     risen-none (tc s) (tk s) (s .args .clearance) (s .pre .0) a k l (s .args .end) (s .args .end)
-    (sought-miss (tc s) (tk s) (s .args .clearance) (s .pre .0) (s .args .lowest .now) (s .args .highest .now) (s .pre .1 .0) (s .pre .1 .1 .0) (s .args .axis) k
+    (sought-miss (tc s) (tk s) (s .args .clearance) (s .pre .0) (s .args .lowest .now) (s .args .highest .now) (s .pre .1 .0) (s .pre .1 .1 .0)
+    (s .args .axis) k
     (suc l) (s .pre .1 .1 .1 .1 .0) (odd-edge s .inside) _ (start-same (tc s) (tk s) (s .args .clearance) (s .pre .0) a k l (lower e)) (inr (omega arith)))
 
 upper-end-requires : tie.Need-upper-end-requires
@@ -120,7 +121,8 @@ upper-end-requires c κs =
     let g = s .pre .1 .1 .1 .1 .0 in
     let u = s .pre .1 .1 .1 .1 .2 in
     let low = lowest-le s in
-    let whole = levels-edge (tc s) (tk s) x (s .pre .0) (s .args .lowest .now) (s .args .highest .now) (s .pre .1 .0) (s .pre .1 .1 .0) (s .args .axis) (s .args .k)
+    let whole = levels-edge (tc s) (tk s) x (s .pre .0) (s .args .lowest .now) (s .args .highest .now) (s .pre .1 .0) (s .pre .1 .1 .0)
+    (s .args .axis) (s .args .k)
     (suc (s .args .level)) g (odd-edge s .inside) (omega arith) (omega arith) in (
       no-refusal (tc s) (tk s) x (s .pre .0),
       (

@@ -22,7 +22,8 @@ module _ (s : tie.Start) where
   far-end =
       slot-far-end (s .args .cells .now) (s .args .corners .now) (s .args .clearance) (s .pre .0) (s .args .lowest .now) (s .pre .1 .1 .0)
       (getD (s .args .slots .now) (s .args .v) 0) inside
-      (slot-crossed (s .args .cells .now) (s .args .corners .now) (s .args .clearance) (s .pre .0) (s .args .lowest .now) (s .pre .1 .1 .0) (s .args .slots .now)
+      (slot-crossed (s .args .cells .now) (s .args .corners .now) (s .args .clearance) (s .pre .0) (s .args .lowest .now) (s .pre .1 .1 .0)
+      (s .args .slots .now)
       (s .pre .1 .1 .1 .1 .1 .1 .0) (s .args .v) (s .pre .1 .1 .1 .1 .1 .1 .1 .0)) (s .args .far .now) (s .pre .1 .1 .1 .1 .0)
 
 mul-slot : tie.Need-mul-slot

@@ -1,9 +1,9 @@
--- `edges::note_edge` meets its contract: each table changes at the slot, by what the three helpers return.
-use mathlib.Core.Path.{_≡_, ap}
+-- `edges::noting::note_edge` meets its contract: each table changes at the slot, by what the three helpers return.
+use mathlib.Core.Path.{ap}
 use lib.ListN.{set}
 use borrow.Author.Needs.{needs}
-use Rattle.edges.proofs.note_edge.Statement.{statement}
-use Rattle.edges.proofs.note_edge.Tie as tie
+use Rattle.edges.proofs.noting.note_edge.Statement.{statement}
+use Rattle.edges.proofs.noting.note_edge.Tie as tie
 
 slice-read-end-of-lower : tie.Need-slice-read-end-of-lower
 slice-read-end-of-lower c = search needs

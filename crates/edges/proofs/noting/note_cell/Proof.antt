@@ -1,8 +1,8 @@
--- `edges::note_cell` meets its contract: before each turn the tables are of the cell's edges from edge e on, and of those of the cells behind.
+-- `edges::noting::note_cell` meets its contract: before each turn the tables are of the cell's edges from edge e on, and of those of the cells behind.
 use Prim.Native.Nat.{ℕ, _+_, _-_, _*_, _/_, _≤_, _<_}
 use mathlib.Core.Path.{_≡_, refl, sym, ap, _∙_}
 use mathlib.Core.Bool.{false}
-use mathlib.Core.List.{List, _++_}
+use mathlib.Core.List.{_++_}
 use native.Mathlib.Omega.{arith}
 use lib.ListN.{length, getD, drop}
 use Rattle.base.specs.Grid.{origin}
@@ -15,8 +15,8 @@ use Rattle.edges.specs.Tables.{cellEdges, edgesOf, Levels}
 use Rattle.edges.proofs.Notes.{starts, ends, start-below, end-below, start-octant, end-octant, note-next, levels-same, edges-from}
 use Rattle.edges.proofs.Surveyed.{record-inside}
 use borrow.Author.Needs.{needs}
-use Rattle.edges.proofs.note_cell.Statement.{statement}
-use Rattle.edges.proofs.note_cell.Tie as tie
+use Rattle.edges.proofs.noting.note_cell.Statement.{statement}
+use Rattle.edges.proofs.noting.note_cell.Tie as tie
 
 abbrev Inv-loop : tie.InvT-loop
 Inv-loop cells corners octants lowest₀ highest₀ far₀ n level e₀ lowest highest far e =
@@ -43,19 +43,26 @@ module _ (c : tie.In-loop Inv-loop μ-loop) where
   edge-few = omega arith
 
   record-few : at-start c .args .n < 2049
-  record-few = omega (arith, few-cells (s .args .cells .now) (s .args .corners .now) (checked (s .args .cells .now) (s .args .corners .now) (s .pre .0)), s .pre .1 .1 .0 .0)
+  record-few = omega (
+    arith,
+    few-cells (s .args .cells .now) (s .args .corners .now)
+        (checked (s .args .cells .now) (s .args .corners .now) (s .pre .0)),
+    s .pre .1 .1 .0 .0,
+  )
 
   corners-few : length (at-start c .args .corners .now) / 10 ≤ 4872
   corners-few = few-corners (s .args .cells .now) (s .args .corners .now) (checked (s .args .cells .now) (s .args .corners .now) (s .pre .0))
 
-  begins : (getD starts (edge-at c) 0 < 8) × Octant (at-start c .args .cells .now) (at-start c .args .corners .now) (at-start c .args .n) (getD starts (edge-at c) 0)
+  begins : (getD starts (edge-at c) 0 < 8) ×
+      Octant (at-start c .args .cells .now) (at-start c .args .corners .now) (at-start c .args .n) (getD starts (edge-at c) 0)
       (getD (at-start c .args .octants .now) (8 * at-start c .args .n + getD starts (edge-at c) 0) 0)
   begins =
       let o = s .pre .1 .0 in
       let h = s .pre .1 .1 .0 .0 in
       (start-below _ _ _ o _ h (edge-at c) edge-few, start-octant _ _ _ o _ h (edge-at c) edge-few)
 
-  finishes : (getD ends (edge-at c) 0 < 8) × Octant (at-start c .args .cells .now) (at-start c .args .corners .now) (at-start c .args .n) (getD ends (edge-at c) 0)
+  finishes : (getD ends (edge-at c) 0 < 8) ×
+      Octant (at-start c .args .cells .now) (at-start c .args .corners .now) (at-start c .args .n) (getD ends (edge-at c) 0)
       (getD (at-start c .args .octants .now) (8 * at-start c .args .n + getD ends (edge-at c) 0) 0)
   finishes =
       let o = s .pre .1 .0 in
@@ -139,7 +146,8 @@ loop-again c =
     let tk = s .args .corners .now in
     let law = checked tc tk (s .pre .0) in
     let q : l .loop .e ≡ edge-at t + 1 = omega arith in
-    let before = levels-same tk _ _ _ _ _ (ap (λ i. drop i (cellEdges (cellAt tc (s .args .n))) ++ edgesOf (drop (s .args .n + 1) (cellsOf tc))) q) (l .loop .inv .1) in (
+    let before = levels-same tk _ _ _ _ _ (ap (λ i. drop i (cellEdges (cellAt tc (s .args .n))) ++ edgesOf (drop (s .args .n + 1) (cellsOf tc))) q)
+    (l .loop .inv .1) in (
       omega arith,
       note-next tc tk (s .args .octants .now) (s .pre .1 .0) (s .args .n) (s .pre .1 .1 .0 .0) (edge-at t) (edge-few t)
           (l .before .before .before .before .before .shared-slice-known2 .given) (places-rise tc tk law) (few-corners tc tk law)
@@ -161,7 +169,8 @@ returns c =
     let s = start (c .before) in
     let tc = s .args .cells .now in
     let z : c .before .loop .e ≡ 0 = omega arith in
-    let e = edges-from (cellsOf tc) (cell origin 10 false) (s .args .n) (record-inside tc (s .args .corners .now) (s .pre .0) (s .args .n) (s .pre .1 .1 .0 .0)) in
+    let e = edges-from (cellsOf tc) (cell origin 10 false) (s .args .n) (record-inside tc (s .args .corners .now) (s .pre .0) (s .args .n)
+    (s .pre .1 .1 .0 .0)) in
     levels-same (s .args .corners .now) _ _ _ _ _
     (ap (λ i. drop i (cellEdges (cellAt tc (s .args .n))) ++ edgesOf (drop (s .args .n + 1) (cellsOf tc))) z ∙ sym e) (c .before .loop .inv .1)
 
