@@ -12,6 +12,7 @@ use Rattle.base.proofs.Lists.{length-count}
 use Rattle.rules.specs.Survey.{Survey}
 use Rattle.rules.specs.Edges.{pointEdges}
 use Rattle.edges.specs.Tables.{crossedSlot, slotsBelow, Numbers, Slots}
+use Rattle.edges.specs.Numbering.{Numbered}
 use Rattle.edges.proofs.Filled.{filled-more}
 use Rattle.edges.proofs.Levels.{Edged}
 use Rattle.edges.proofs.Points.{below-next, point-count}
@@ -23,16 +24,6 @@ keep-le f (x ∷ xs) = go (f x) (keep-le f xs)
     go : (b : Bool) → length (keep f xs) ≤ length xs → length (cond b (x ∷ keep f xs) (keep f xs)) ≤ suc (length xs)
     go true h = omega arith
     go false h = omega arith
-
--- what the tables hold when the slots below i have been passed, and n points were found
-pub record Numbered (s : Survey) (numbers slots : List ℕ) (n i : ℕ) : Type 0 where
-  pub upto : i ≤ 14616
-  pub counted : n ≡ length (slotsBelow s i)
-  pub few : n ≤ i
-  pub numbers-size : length numbers ≡ 14616
-  pub slots-size : length slots ≡ 14616
-  pub number : (j : ℕ) → j < i → getD numbers j 0 ≡ length (slotsBelow s j)
-  pub slot : (v : ℕ) → v < n → getD slots v 0 ≡ getD (slotsBelow s i) v 0
 
 module _ (s : Survey) where
   pub below-le : (i : ℕ) → length (slotsBelow s i) ≤ i

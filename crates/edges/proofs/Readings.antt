@@ -78,6 +78,11 @@ module _ (s : Survey) (i : ℕ) where
     unfolding crossedSlot
     slot-odd g = rw (lt-ltb (i % 4872) (length (s .places)) h, lt-ltb (lowestLevel s (axisOf (i / 4872)) (placeAt (s .places) (i % 4872))) 11 g)
 
+-- a slot of no record
+pub record-outside : (tc tk : List ℕ) (clearance : Float) (i : ℕ) → length tk / 10 ≤ i % 4872 → crossedSlot (surveyOf tc tk clearance) i ≡ false
+unfolding surveyOf
+record-outside tc tk clearance i h = slot-outside (surveyOf tc tk clearance) i (omega (arith, length-places tk))
+
 -- ---- an accepted survey
 
 module _ (tc tk : List ℕ) (clearance : Float) (ok : accepted tc tk clearance ≡ true) where
@@ -110,8 +115,7 @@ module _ (tc tk : List ℕ) (clearance : Float) (ok : accepted tc tk clearance �
     level-is g = lowest-read lowest low (i / 4872) (i % 4872) i (omega arith) (omega arith) g
 
     pub outside : length tk / 10 ≤ i % 4872 → crossedSlot (surveyOf tc tk clearance) i ≡ false
-    unfolding surveyOf
-    outside g = slot-outside s i (omega (arith, length-places tk))
+    outside g = record-outside tc tk clearance i g
 
     pub empty : i % 4872 < length tk / 10 → 10 < getD lowest i 0 → crossedSlot (surveyOf tc tk clearance) i ≡ false
     unfolding surveyOf

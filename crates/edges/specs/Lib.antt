@@ -1,3 +1,4 @@
 pub mod Tables
 pub mod Noting
 pub mod Enquiry
+pub mod Numbering

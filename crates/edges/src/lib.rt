@@ -3,7 +3,7 @@
 ghost use mathlib.Core.Path.{_≡_};
 ghost use mathlib.Core.Bool.{true, cond};
 ghost use mathlib.Core.List.{[]};
-ghost use Prim.Native.Nat.{_+_, _*_, _/_, _≤_, _<_};
+ghost use Prim.Native.Nat.{_+_, _*_, _/_, _%_, _≤_, _<_};
 ghost use lib.Dec.{T};
 ghost use lib.ListN.{length, set};
 ghost use Rattle.base.specs.Lists.{bit};
@@ -17,6 +17,7 @@ ghost use Rattle.edges.specs.Tables.{edgesOf, placeAt, crossedSlot, slot
 ghost use Rattle.edges.specs.Tables.{Highest, Far, Wets, Numbers, Slots, Twins, OddEdge, Sought};
 ghost use Rattle.records.proofs.Keys.{Short};
 ghost use Rattle.octants.specs.Octants.{Octants};
+ghost use Rattle.edges.specs.Numbering.{Numbered};
 ghost use Rattle.rules.specs.Outputs.{enquiry};
 use places::Point;
 use rules::Answer;
@@ -103,6 +104,30 @@ fn enter(slots: &mut [u16], n: usize, slot: usize, crossed: bool) -> usize
     n
 }
 
+// Numbers the slots of an axis from `slot` on, for which there are no corner records: none of them is crossed. Where the slots of the next axis begin.
+fn number_rest(
+    cells: &[u8],
+    corners: &[u8],
+    clearance: f32,
+    numbers: &mut [u16],
+    slots: &[u16],
+    n: usize,
+    slot: usize,
+) -> usize
+    requires { ⌜ Numbered (surveyOf (now cells) (now corners) clearance) (now numbers) (now slots) n slot ⌝ }
+    requires { ⌜ (slot < 14616) × (length (now corners) / 10 ≤ slot % 4872) ⌝ }
+    ensures { λ r. ⌜ slot < r ⌝ }
+    ensures { λ r. ⌜ Numbered (surveyOf (now (cells .entry)) (now (corners .entry)) clearance) (now (numbers .exit)) (now (slots .entry)) n r ⌝ }
+{
+    let end = slot / 4872 * 4872 + 4872;
+    let mut at = slot;
+    while at < end {
+        numbers[at] = n as u16;
+        at += 1;
+    }
+    end
+}
+
 // Numbers the points in one pass over the slots: for each slot the crossed ones before it, for each point its slot. How many points there are.
 pub fn number_slots(
     cells: &[u8],
@@ -123,9 +148,14 @@ pub fn number_slots(
     ensures { λ _. ⌜ Numbers (surveyOf (now (cells .entry)) (now (corners .entry)) clearance) (now (numbers .exit)) ⌝ }
     ensures { λ _. ⌜ Slots (surveyOf (now (cells .entry)) (now (corners .entry)) clearance) (now (slots .exit)) ⌝ }
 {
+    let count = corners.len() / 10;
     let mut n: usize = 0;
     let mut slot: usize = 0;
     while slot < 14616 {
+        if slot % 4872 >= count {
+            slot = number_rest(cells, corners, clearance, numbers, slots, n, slot);
+            continue;
+        }
         numbers[slot] = n as u16;
         n = enter(
             slots,
