@@ -1,22 +1,20 @@
 -- The cell of the same size across a side, and its quarters that touch the side: which records they are, and the small faces in them.
-use Prim.Native.Nat.{ℕ, zero, suc, pred, _+_, _-_, _*_, _/_, _^_, _≤_, _<_}
+use Prim.Native.Nat.{ℕ, zero, suc, pred, _+_, _-_, _/_, _^_, _≤_, _<_}
 use mathlib.Core.Path.{_≡_, refl, sym, ap, _∙_, subst}
-use mathlib.Core.Logic.{_⊎_, inl, inr}
 use mathlib.Core.Bool.{Bool, true, false, not, _&&_, _||_, cond}
 use mathlib.Core.List.{List, [], _∷_, _++_, append-assoc, append-nil}
 use native.Mathlib.Omega.{arith}
-use native.Mathlib.Nat.{pow-succ'}
 use lib.Dec.{T, eqb, eqb→eq}
 use lib.ListN.{length, getD}
 use lib.Ieee.{Float}
-use borrow.Author.Tests.{eq-eqb, ne-eqb}
+use borrow.Author.Tests.{ne-eqb}
 use Rattle.base.specs.Lists.{any, collect}
-use Rattle.base.specs.Grid.{Place, origin, Axis, X, Y, Z, axisOf, next, along, move, same, octants}
+use Rattle.base.specs.Grid.{Place, origin, Axis, X, Y, Z, axisOf, next, move, same, octants}
 use Rattle.base.proofs.Tests.{→false, tests-equal, eq→eqb}
 use Rattle.rules.specs.Survey.{Cell, cell, cellsOf, entry, Survey}
 use Rattle.rules.specs.Steps.{Side, Face, face, Step, splitAcross, smallFaces, faceSteps}
 use Rattle.rules.specs.Outputs.{accepted, surveyOf}
-use Rattle.octree.proofs.Lawful.{isAt, isCell, isSplit, Octree}
+use Rattle.octree.proofs.Lawful.{isAt, isSplit}
 use Rattle.octree.proofs.Halves.{move-move}
 use Rattle.octree.proofs.Records.{split-record, split-level, SplitRecord}
 use Rattle.octree.proofs.Queue.{box}
@@ -24,14 +22,14 @@ use Rattle.cells.specs.Laid.{octantKey, cellAt}
 use Rattle.cells.proofs.Octants.{size-fits}
 use Rattle.trace.specs.Trace.{Trace, Recorded}
 use Rattle.faces.specs.Descent.{placeWith, Grown}
-use Rattle.faces.specs.Faces.{sideAt, facet, sideOf, faceOf, sideBit, quarterBit, quarterOf, childAcross, octantBit, SideOf, Room, Faced, Across}
+use Rattle.faces.specs.Faces.{sideAt, facet, sideOf, faceOf, sideBit, quarterBit, quarterOf, octantBit, Room, Faced, Across}
 use Rattle.faces.specs.Faces.{smallSteps, facetSteps}
 use Rattle.faces.specs.declared.Facet.{Facet}
 use Rattle.faces.proofs.Faces.{Axes, side-axes}
 use Rattle.faces.proofs.Firsts.{firsts}
 use Rattle.faces.proofs.Keys.{octant-place, octant-fits}
 use Rattle.faces.proofs.Looks.{grown, face-room}
-use Rattle.faces.proofs.Descent.{cell-is, split-is}
+use Rattle.faces.proofs.Descent.{split-is}
 
 collect-append : {A B : Type 0} (f : A → List B) (xs ys : List A) → collect f (xs ++ ys) ≡ collect f xs ++ collect f ys
 collect-append f [] ys = refl
@@ -132,9 +130,9 @@ module _ (f : Facet) (room : Room f) (i : ℕ) where
   short : 2 ^ (f .level - 1) ≤ 1024
   short = size-fits (f .level - 1) (omega (arith, room .level-less))
 
-  pub quarter-place : placeWith (quarterOf f i .key) ≡ quarterLow (sideOf f) (2 ^ (f .level - 1)) (placeWith (f .key)) i
+  pub quarter-place : (m : ℕ) → placeWith (quarterOf f m i .key) ≡ quarterLow (sideOf f) (2 ^ (f .level - 1)) (placeWith (f .key)) i
   unfolding quarterOf
-  quarter-place =
+  quarter-place m =
       let e : quarterBit (sideOf f) i ≡ 0 + quarterBit (sideOf f) i = omega arith in
       octant-place (f .key) (2 ^ (f .level - 1)) (quarterBit (sideOf f) i) (room .boxed) short bit-least
       ∙ ap (λ k. getD (octants (2 ^ (f .level - 1)) (placeWith (f .key))) k origin) e
@@ -150,9 +148,9 @@ module _ (f : Facet) (room : Room f) (i : ℕ) where
     pub quarter-fits : f .key + r < 18446744073709551616
     quarter-fits = omega (arith, r-is, octant-fits (f .key) (2 ^ (f .level - 1)) (quarterBit (sideOf f) i) (room .boxed) short bit-least)
 
-    pub quarter-is : facet (f .axis) (f .upper) (f .key + r) (f .level - 1) ≡ quarterOf f i
+    pub quarter-is : (m : ℕ) → facet (f .axis) (f .upper) (f .key + r) (f .level - 1) (m + (f .low + q)) (f .low) ≡ quarterOf f m i
     unfolding quarterOf
-    quarter-is = ap (λ d. facet (f .axis) (f .upper) (f .key + d) (f .level - 1)) r-is
+    quarter-is m = λ j. facet (f .axis) (f .upper) (f .key + r-is j) (f .level - 1) (m + (f .low + eq j)) (f .low)
 
 -- what quarter i adds to the number of a child, from the numbers of the axes right and up
 module _ (f : Facet) (i m b o h : ℕ) (em : axisOf m ≡ sideOf f .right) (eb : b ≡ octantBit (axisOf m)) (eo : axisOf o ≡ sideOf f .up)
@@ -177,17 +175,13 @@ module _ (f : Facet) (i m b o h : ℕ) (em : axisOf m ≡ sideOf f .right) (eb :
         omega (arith, b-is, h-is, eight (f .axis) (f .upper) false),
       )
 
-pub child-is : (f : Facet) (i b q : ℕ) → b ≡ sideBit (f .axis) (not (f .upper)) → q ≡ quarterBit (sideOf f) i → (b + q ≡ childAcross f i) × (b + q < 8)
-child-is f i b q eb eq =
-    (ap (λ v. v + q) eb ∙ ap (λ v. sideBit (f .axis) (not (f .upper)) + v) eq, omega (arith, eb, eq, quarter-few (f .axis) (f .upper) (not (f .upper)) i))
-
-pub quarter-level : (f : Facet) (i : ℕ) (r : Facet) → r ≡ quarterOf f i → r .level ≡ f .level - 1
+pub quarter-level : (f : Facet) (m i : ℕ) (r : Facet) → r ≡ quarterOf f m i → r .level ≡ f .level - 1
 unfolding quarterOf
-quarter-level f i r e = ap (λ (g : Facet). g .level) e
+quarter-level f m i r e = ap (λ (g : Facet). g .level) e
 
-pub quarter-recorded : (s : Survey) (f : Facet) (i : ℕ) (r : Facet) (t u : Trace) → r ≡ quarterOf f i
-    → Recorded (facetSteps s r) t u → Recorded (facetSteps s (quarterOf f i)) t u
-quarter-recorded s f i r t u e h = subst (λ (g : Facet). Recorded (facetSteps s g) t u) e h
+pub quarter-recorded : (s : Survey) (f : Facet) (m i : ℕ) (r : Facet) (t u : Trace) → r ≡ quarterOf f m i
+    → Recorded (facetSteps s r) t u → Recorded (facetSteps s (quarterOf f m i)) t u
+quarter-recorded s f m i r t u e h = subst (λ (g : Facet). Recorded (facetSteps s g) t u) e h
 
 -- ---- the split cell across
 
@@ -250,47 +244,58 @@ split-steps s side p l e =
 
 -- ---- going down into the cell across
 
-module _ (tc tk : List ℕ) (clearance : Float) (ok : accepted tc tk clearance ≡ true) (f : Facet) (n : ℕ) (x : Across tc f n) where
+module _ (tc tk : List ℕ) (clearance : Float) (ok : accepted tc tk clearance ≡ true) (f : Facet) (x : Across tc f) where
   g : Grown tc
   g = grown tc tk clearance ok
 
   pub faced : Faced tc f
   faced = record {
     axis-less = x .axis-less;
-    side =
-        (cellAt tc n .low, subst (λ l. T (isCell (cellsOf tc) l (cellAt tc n .low))) (x .level-is) (cell-is tc g n (x .inside)), go (f .upper) (x .low-is));
+    inside = x .inside;
+    level-is = x .level-is;
+    far = not (f .upper);
+    bit-is = x .bit-is;
+    place-is = x .low-is ∙ turned (f .upper) (cellAt tc (f .cell) .low) (move (axisOf (f .axis)) (2 ^ f .level) (cellAt tc (f .cell) .low));
   }
     where
-      go : (u : Bool) → placeWith (f .key) ≡ cond u (cellAt tc n .low) (move (axisOf (f .axis)) (2 ^ f .level) (cellAt tc n .low))
-          → (placeWith (f .key) ≡ cellAt tc n .low) ⊎ (placeWith (f .key) ≡ move (axisOf (f .axis)) (2 ^ f .level) (cellAt tc n .low))
-      go true e = inl e
-      go false e = inr e
+      turned : (u : Bool) (p q : Place) → cond u p q ≡ cond (not u) q p
+      turned true p q = refl
+      turned false p q = refl
+
+  pub low-few : f .low ≤ 4
+  low-few = rw (x .bit-is) (few (axisOf (f .axis)) (not (f .upper)))
+    where
+      few : (a : Axis) (far : Bool) → cond far (octantBit a) 0 ≤ 4
+      few X true = omega arith
+      few Y true = omega arith
+      few Z true = omega arith
+      few a false = omega arith
 
   pub room : Room f
   room = face-room tc tk clearance ok f faced
 
-  split-here : any (splitAcross (sideOf f) (placeWith (f .key)) (f .level)) (cellsOf tc) ≡ not (eqb (entry tc n) 0)
+  split-here : any (splitAcross (sideOf f) (placeWith (f .key)) (f .level)) (cellsOf tc) ≡ not (eqb (entry tc (f .cell)) 0)
   split-here =
-      across-split (cellsOf tc) (f .axis) (f .upper) (f .level) (placeWith (f .key)) (cellAt tc n .low) (x .low-is)
-      ∙ ap (λ l. isSplit (cellsOf tc) l (cellAt tc n .low)) (sym (x .level-is)) ∙ split-is tc g n (x .inside)
+      across-split (cellsOf tc) (f .axis) (f .upper) (f .level) (placeWith (f .key)) (cellAt tc (f .cell) .low) (x .low-is)
+      ∙ ap (λ l. isSplit (cellsOf tc) l (cellAt tc (f .cell) .low)) (sym (x .level-is)) ∙ split-is tc g (f .cell) (x .inside)
 
   -- a leaf across: the facet itself
-  pub whole-recorded : (e : ℕ) (t u : Trace) → e ≡ entry tc n → e ≡ 0
+  pub whole-recorded : (e : ℕ) (t u : Trace) → e ≡ entry tc (f .cell) → e ≡ 0
       → Recorded (faceSteps (surveyOf tc tk clearance) (sideOf f) (faceOf f)) t u → Recorded (facetSteps (surveyOf tc tk clearance) f) t u
   unfolding surveyOf
   whole-recorded e t u r z h =
       subst (λ ss. Recorded ss t u) (whole-steps (surveyOf tc tk clearance) (sideOf f) (placeWith (f .key)) (f .level) (split-here ∙ rw (← r, z))) h
 
-  module _ (e : ℕ) (r : e ≡ entry tc n) (s : e ≡ 0 → ⊥) where
-    mark : T (not (eqb (entry tc n) 0))
-    mark = →false (ne-eqb (entry tc n) 0 (λ q. s (r ∙ q)))
+  module _ (e : ℕ) (r : e ≡ entry tc (f .cell)) (s : e ≡ 0 → ⊥) where
+    mark : T (not (eqb (entry tc (f .cell)) 0))
+    mark = →false (ne-eqb (entry tc (f .cell)) 0 (λ q. s (r ∙ q)))
 
-    parts : SplitRecord tc box n
-    parts = split-record tc (g .entries-right) box n (x .inside) mark
+    parts : SplitRecord tc box (f .cell)
+    parts = split-record tc (g .entries-right) box (f .cell) (x .inside) mark
 
     -- a split cell is above level 0
     pub above-zero : 0 < f .level
-    above-zero = omega (arith, split-level tc (g .entries-right) (g .units-whole) box n (x .inside) mark, x .level-is)
+    above-zero = omega (arith, split-level tc (g .entries-right) (g .units-whole) box (f .cell) (x .inside) mark, x .level-is)
 
     pub children-inside : e + 7 < length tc / 4
     children-inside = omega (arith, parts .fits)
@@ -298,54 +303,56 @@ module _ (tc tk : List ℕ) (clearance : Float) (ok : accepted tc tk clearance �
     less : f .level ≡ suc (f .level - 1)
     less = omega (arith, above-zero)
 
-    half-is : pred (cellAt tc n .level) ≡ f .level - 1
+    half-is : pred (cellAt tc (f .cell) .level) ≡ f .level - 1
     half-is = ap pred (x .level-is) ∙ (let h : pred (f .level) ≡ f .level - 1 = omega (arith, above-zero) in h)
 
     -- the lowest corner of the child in place i
-    child-at : (i : ℕ) → i < 8 → cellAt tc (e + i) .low ≡ getD (octants (2 ^ (f .level - 1)) (cellAt tc n .low)) i origin
-    child-at i h = ap (λ m. cellAt tc (m + i) .low) r ∙ parts .child-low i h ∙ ap (λ l. getD (octants (2 ^ l) (cellAt tc n .low)) i origin) half-is
+    child-at : (i : ℕ) → i < 8 → cellAt tc (e + i) .low ≡ getD (octants (2 ^ (f .level - 1)) (cellAt tc (f .cell) .low)) i origin
+    child-at i h = ap (λ m. cellAt tc (m + i) .low) r ∙ parts .child-low i h ∙ ap (λ l. getD (octants (2 ^ l) (cellAt tc (f .cell) .low)) i origin) half-is
 
     child-level : (i : ℕ) → i < 8 → cellAt tc (e + i) .level ≡ f .level - 1
     child-level i h = ap (λ m. cellAt tc (m + i) .level) r ∙ parts .child-level i h ∙ half-is
 
     -- the child at the facet's lowest corner
     base : Place
-    base = cond (not (f .upper)) (move (axisOf (f .axis)) (2 ^ (f .level - 1)) (cellAt tc n .low)) (cellAt tc n .low)
+    base = cond (not (f .upper)) (move (axisOf (f .axis)) (2 ^ (f .level - 1)) (cellAt tc (f .cell) .low)) (cellAt tc (f .cell) .low)
 
     base-is : placeWith (f .key) ≡ cond (f .upper) base (move (axisOf (f .axis)) (2 ^ (f .level - 1)) base)
     unfolding base
-    base-is = x .low-is ∙ go (f .upper)
+    base-is = x .low-is ∙ go (f .upper) (cellAt tc (f .cell) .low)
       where
-        go : (u : Bool) → cond u (cellAt tc n .low) (move (axisOf (f .axis)) (2 ^ f .level) (cellAt tc n .low))
-            ≡ cond u (cond (not u) (move (axisOf (f .axis)) (2 ^ (f .level - 1)) (cellAt tc n .low)) (cellAt tc n .low))
-            (move (axisOf (f .axis)) (2 ^ (f .level - 1)) (cond (not u) (move (axisOf (f .axis)) (2 ^ (f .level - 1)) (cellAt tc n .low)) (cellAt tc n .low)))
-        go true = refl
-        go false = ap (λ l. move (axisOf (f .axis)) (2 ^ l) (cellAt tc n .low)) less ∙ sym (move-move (axisOf (f .axis)) (f .level - 1) (cellAt tc n .low))
+        go : (u : Bool) (p : Place) → cond u p (move (axisOf (f .axis)) (2 ^ f .level) p)
+            ≡ cond u (cond (not u) (move (axisOf (f .axis)) (2 ^ (f .level - 1)) p) p)
+            (move (axisOf (f .axis)) (2 ^ (f .level - 1)) (cond (not u) (move (axisOf (f .axis)) (2 ^ (f .level - 1)) p) p))
+        go true p = refl
+        go false p = ap (λ l. move (axisOf (f .axis)) (2 ^ l) p) less ∙ sym (move-move (axisOf (f .axis)) (f .level - 1) p)
 
     -- the child at quarter i lies across it
-    quarter-at : (i c : ℕ) → c ≡ childAcross f i → Across tc (quarterOf f i) (e + c)
+    quarter-at : (i : ℕ) → Across tc (quarterOf f e i)
     unfolding base quarterOf
-    quarter-at i c ec = record {
+    quarter-at i = record {
       axis-less = x .axis-less;
       inside = omega (arith, children-inside, few);
-      level-is = child-level c few;
-      low-is = quarter-place f room i ∙ ap (λ q. quarterLow (sideOf f) (2 ^ (f .level - 1)) q i) base-is
+      level-is = child-level (f .low + quarterBit (sideOf f) i) few;
+      bit-is = x .bit-is;
+      low-is = quarter-place f room i e ∙ ap (λ q. quarterLow (sideOf f) (2 ^ (f .level - 1)) q i) base-is
           ∙ quarter-moved (f .axis) (f .upper) (2 ^ (f .level - 1)) base i
           ∙ ap (λ q. cond (f .upper) q (move (axisOf (f .axis)) (2 ^ (f .level - 1)) q)) (sym low);
     }
       where
-        few : c < 8
-        few = omega (arith, quarter-few (f .axis) (f .upper) (not (f .upper)) i)
+        few : f .low + quarterBit (sideOf f) i < 8
+        few = omega (arith, x .bit-is, quarter-few (f .axis) (f .upper) (not (f .upper)) i)
 
-        low : cellAt tc (e + c) .low ≡ quarterLow (sideOf f) (2 ^ (f .level - 1)) base i
-        low = child-at c few ∙ ap (λ k. getD (octants (2 ^ (f .level - 1)) (cellAt tc n .low)) k origin) ec
-            ∙ quarter-octant (f .axis) (f .upper) (not (f .upper)) (2 ^ (f .level - 1)) (cellAt tc n .low) i
+        low : cellAt tc (e + (f .low + quarterBit (sideOf f) i)) .low ≡ quarterLow (sideOf f) (2 ^ (f .level - 1)) base i
+        low = child-at (f .low + quarterBit (sideOf f) i) few
+            ∙ ap (λ k. getD (octants (2 ^ (f .level - 1)) (cellAt tc (f .cell) .low)) (k + quarterBit (sideOf f) i) origin) (x .bit-is)
+            ∙ quarter-octant (f .axis) (f .upper) (not (f .upper)) (2 ^ (f .level - 1)) (cellAt tc (f .cell) .low) i
 
-    pub quarter-across : (i c : ℕ) (q : Facet) → q ≡ quarterOf f i → c ≡ childAcross f i → Across tc q (e + c)
-    quarter-across i c q eq ec = subst (λ (h : Facet). Across tc h (e + c)) (sym eq) (quarter-at i c ec)
+    pub quarter-across : (i : ℕ) (q : Facet) → q ≡ quarterOf f e i → Across tc q
+    quarter-across i q eq = subst (Across tc) (sym eq) (quarter-at i)
 
     -- the steps in the four quarters
-    pub quarters-recorded : (t u : Trace) → Recorded (firsts (λ i. facetSteps (surveyOf tc tk clearance) (quarterOf f i)) 4) t u
+    pub quarters-recorded : (t u : Trace) → Recorded (firsts (λ i. facetSteps (surveyOf tc tk clearance) (quarterOf f e i)) 4) t u
         → Recorded (facetSteps (surveyOf tc tk clearance) f) t u
     unfolding surveyOf quarterOf
     quarters-recorded t u h =
@@ -353,9 +360,9 @@ module _ (tc tk : List ℕ) (clearance : Float) (ok : accepted tc tk clearance �
         let p = placeWith (f .key) in
         let l = f .level - 1 in
         let steps : Place → List Step = λ q. smallSteps sv (sideOf f) q l in
-        let at : (i : ℕ) → placeWith (quarterOf f i .key) ≡ quarterLow (sideOf f) (2 ^ l) p i = quarter-place f room in
+        let at : (i : ℕ) → placeWith (quarterOf f e i .key) ≡ quarterLow (sideOf f) (2 ^ l) p i = λ i. quarter-place f room i e in
         let split : any (splitAcross (sideOf f) p (suc l)) (cellsOf tc) ≡ true =
-        ap (λ z. any (splitAcross (sideOf f) p z) (cellsOf tc)) (sym less) ∙ split-here ∙ ap not (ne-eqb (entry tc n) 0 (λ q. s (r ∙ q))) in
-        let placed : firsts (λ i. steps (placeWith (quarterOf f i .key))) 4 ≡ firsts (λ i. steps (quarterLow (sideOf f) (2 ^ l) p i)) 4 =
+        ap (λ z. any (splitAcross (sideOf f) p z) (cellsOf tc)) (sym less) ∙ split-here ∙ ap not (ne-eqb (entry tc (f .cell)) 0 (λ q. s (r ∙ q))) in
+        let placed : firsts (λ i. steps (placeWith (quarterOf f e i .key))) 4 ≡ firsts (λ i. steps (quarterLow (sideOf f) (2 ^ l) p i)) 4 =
         λ j. firsts (λ i. steps (at i j)) 4 in
         subst (λ ss. Recorded ss t u) (placed ∙ split-steps sv (sideOf f) p l split ∙ ap (smallSteps sv (sideOf f) p) (sym less)) h

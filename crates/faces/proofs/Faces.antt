@@ -1,24 +1,28 @@
 -- The corners and edges of a face that is a side of a cell: all listed, and the edges of a step odd; the steps of a face, row by row.
-use Prim.Native.Nat.{ℕ, zero, suc, _+_, _*_, _^_, _≤_, _<_}
+use Prim.Native.Nat.{ℕ, zero, suc, _+_, _^_, _<_}
 use mathlib.Core.Path.{_≡_, refl, sym, ap, _∙_, subst}
 use mathlib.Core.Logic.{_⊎_, inl, inr}
 use mathlib.Core.Bool.{Bool, true, false, not, _&&_, _||_, Bool·beq, cond}
-use mathlib.Core.List.{List, [], _∷_, _++_, map, map-append}
+use mathlib.Core.List.{List, _++_, map, map-append}
 use native.Mathlib.Omega.{arith}
 use lib.Dec.{T, T-not, ltb, lt→ltb}
 use lib.Ieee.{Float}
 use Rattle.base.specs.Grid.{Place, Axis, X, Y, Z, axisOf, next, along, put, move}
 use Rattle.base.proofs.Tests.{and→, or→}
-use Rattle.base.proofs.Places.{put-one, along-put}
-use Rattle.rules.specs.Survey.{Cell, Survey}
-use Rattle.rules.specs.Edges.{CellEdge, edge, isEdge, odd, pointOf}
-use Rattle.rules.specs.Steps.{Side, Face, face, faceCorner, faceEdge, Step, steps, saddleCut, faceSteps}
+use Rattle.base.proofs.Places.{put-one}
+use Rattle.rules.specs.Survey.{Cell}
+use Rattle.rules.specs.Edges.{isEdge, odd}
+use Rattle.rules.specs.Steps.{Side, Face, face, faceCorner, faceEdge, Step, saddleCut, faceSteps}
 use Rattle.rules.specs.Outputs.{surveyOf}
 use Rattle.octree.proofs.Lawful.{isCell, CornerOf}
 use Rattle.octree.proofs.Edges.{→edge}
-use Rattle.faces.specs.Patterns.{stepFrom, patternOf, stepTo, wetBit}
-use Rattle.faces.specs.Faces.{sideAt, SideOf, facePattern, pointStep, rowSteps}
+use Rattle.faces.specs.Patterns.{stepFrom, patternOf, stepTo}
+use Rattle.faces.specs.Faces.{sideAt, facePattern, pointStep, rowSteps}
 use Rattle.faces.proofs.Rows.{steps-by-rows}
+
+-- p is the lowest corner of the lower or the upper side, on the axis a, of a cell of level l
+abbrev pub SideOf : List Cell → Axis → ℕ → Place → Type 0
+SideOf cells a l p = (q : Place) × T (isCell cells l q) × ((p ≡ q) ⊎ (p ≡ move a (2 ^ l) q))
 
 -- ---- the three axes of a side
 
@@ -113,10 +117,10 @@ module _ (s : Side) (x : Axes s) (l : ℕ) (p q : Place) (h : (p ≡ q) ⊎ (p �
       go (inl e) = ap (along b) e
       go (inr e) = ap (along b) e ∙ f (along (s .across) q + 2 ^ l) q
 
-  pub same-right : along (s .right) p ≡ along (s .right) q
+  same-right : along (s .right) p ≡ along (s .right) q
   same-right = same-along (s .right) (x .right-across)
 
-  pub same-up : along (s .up) p ≡ along (s .up) q
+  same-up : along (s .up) p ≡ along (s .up) q
   same-up = same-along (s .up) (x .up-across)
 
   right-corner : CornerOf l q (move (s .right) (2 ^ l) p)

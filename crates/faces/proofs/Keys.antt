@@ -9,23 +9,22 @@ use lib.Dec.{T, eqb}
 use borrow.Author.Tests.{eqb-true, eqb-false, not-true, not-false}
 use Rattle.base.proofs.Tests.{below}
 use lib.ListN.{getD}
-use Rattle.base.specs.Grid.{Place, origin, Axis, X, Y, Z, axisOf, next, along, put, move, back, octants}
+use Rattle.base.specs.Grid.{Place, origin, Axis, X, Y, Z, axisOf, along, move, octants}
 use Rattle.base.proofs.Lists.{in-get}
 use Rattle.base.proofs.Octants.{octant→}
-use Rattle.base.proofs.Places.{every-axis}
 use Rattle.records.specs.Keys.{keyOf}
 use Rattle.cells.specs.Laid.{octantKey}
 use Rattle.cells.proofs.Octants.{octant-key-is, octant-key-le, size-fits}
 use Rattle.cells.proofs.Laying.{key-small}
 use Rattle.edges.specs.Noting.{keyUnit}
 use Rattle.rules.specs.Survey.{Cell}
-use Rattle.rules.specs.Steps.{Side, Face, face, faceEdge}
+use Rattle.rules.specs.Steps.{Side, Face, faceCorner, faceEdge}
 use Rattle.octree.proofs.Lawful.{Octree}
-use Rattle.octree.proofs.Aligned.{cell-in-box, corner-place}
+use Rattle.octree.proofs.Aligned.{corner-place}
 use Rattle.faces.specs.Descent.{placeWith, Outside}
-use Rattle.faces.specs.Faces.{sideAt, sideOf, octantBit, SideOf, Room}
+use Rattle.faces.specs.Faces.{sideAt, sideOf, octantBit, Room}
 use Rattle.faces.specs.declared.Facet.{Facet}
-use Rattle.faces.proofs.Faces.{Axes, side-axes, corner-of, same-right, same-up}
+use Rattle.faces.proofs.Faces.{SideOf, Axes, side-axes, corner-of}
 
 low-part : (y z : ℕ) → y < 65536 → (y + 65536 * z) % 65536 ≡ y
 low-part y z h = omega arith
@@ -184,19 +183,24 @@ odd-edge s (suc (suc zero)) h e f = absurd (e refl)
 odd-edge s (suc (suc (suc zero))) h e f = refl
 odd-edge s (suc (suc (suc (suc i)))) h e f = absurd (omega arith)
 
--- the lower ends of edges 1 and 2 are moved right and up, those of edges 0 and 3 are the lowest corner
-module _ (s : Side) (p : Place) (l : ℕ) where
-  pub right-low : (i n : ℕ) (q : Place) → i ≡ 1 → axisOf n ≡ s .right → q ≡ move (axisOf n) (2 ^ l) p → q ≡ faceEdge s (face p l) i .low
-  right-low i n q e f g = g ∙ ap (λ a. move a (2 ^ l) p) f ∙ ap (λ j. faceEdge s (face p l) j .low) (sym e)
+-- the lower end of edge 1 is corner 1, that of edge 2 is corner 3, those of edges 0 and 3 are corner 0
+abbrev pub EdgeCorner : ℕ → ℕ → Type 0
+EdgeCorner i j = (j < 4) × ((s : Side) (f : Face) → faceCorner s f j ≡ faceEdge s f i .low)
 
-  pub up-low : (i n : ℕ) (q : Place) → i ≡ 2 → axisOf n ≡ s .up → q ≡ move (axisOf n) (2 ^ l) p → q ≡ faceEdge s (face p l) i .low
-  up-low i n q e f g = g ∙ ap (λ a. move a (2 ^ l) p) f ∙ ap (λ j. faceEdge s (face p l) j .low) (sym e)
+pub right-low : (i : ℕ) → i ≡ 1 → EdgeCorner i 1
+right-low i e = (omega arith, λ s f. ap (λ k. faceEdge s f k .low) (sym e))
 
-  pub same-low : (i : ℕ) → i < 4 → (i ≡ 1 → ⊥) → (i ≡ 2 → ⊥) → p ≡ faceEdge s (face p l) i .low
-  same-low zero h f g = refl
-  same-low (suc zero) h f g = absurd (f refl)
-  same-low (suc (suc zero)) h f g = absurd (g refl)
-  same-low (suc (suc (suc i))) h f g = refl
+pub up-low : (i : ℕ) → i ≡ 2 → EdgeCorner i 3
+up-low i e = (omega arith, λ s f. ap (λ k. faceEdge s f k .low) (sym e))
+
+pub same-low : (i : ℕ) → i < 4 → (i ≡ 1 → ⊥) → (i ≡ 2 → ⊥) → EdgeCorner i 0
+same-low i h f g = (omega arith, λ s t. go i f g s t)
+  where
+    go : (i : ℕ) → (i ≡ 1 → ⊥) → (i ≡ 2 → ⊥) → (s : Side) (t : Face) → t .low ≡ faceEdge s t i .low
+    go zero f g s t = refl
+    go (suc zero) f g s t = absurd (f refl)
+    go (suc (suc zero)) f g s t = absurd (g refl)
+    go (suc (suc (suc i))) f g s t = refl
 
 -- ---- the room of a face
 
@@ -207,8 +211,6 @@ side-room cells tree f few (q, c, h) = record {
   axis-less = few;
   level-less = tree .shallow (f .level) q c;
   boxed = λ a. corner-place cells tree (f .level) q p c (corner-of s x (f .level) p q h 0) a .1;
-  right-room = omega (arith, cell-in-box cells tree (f .level) q c (s .right), same-right s x (f .level) p q h);
-  up-room = omega (arith, cell-in-box cells tree (f .level) q c (s .up), same-up s x (f .level) p q h);
 }
   where
     s : Side

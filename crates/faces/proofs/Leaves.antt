@@ -1,44 +1,44 @@
 -- A leaf's own sides: keys of its corners and of what lies across, and the steps on a side, own or in small faces.
-use Prim.Native.Nat.{ℕ, zero, suc, _+_, _-_, _*_, _/_, _^_, _≤_, _<_}
-use mathlib.Core.Path.{_≡_, refl, sym, ap, _∙_, subst}
-use mathlib.Core.Logic.{_⊎_, inl, inr}
+use Prim.Native.Nat.{ℕ, _+_, _-_, _*_, _/_, _^_, _≤_, _<_}
+use mathlib.Core.Path.{_≡_, sym, ap, _∙_, subst}
 use mathlib.Core.Bool.{Bool, true, false, not, _&&_, cond}
-use mathlib.Core.List.{List, [], _∷_, _++_, map, append-assoc, append-nil}
+use mathlib.Core.List.{List, [], _∷_, map, append-assoc, append-nil}
 use native.Mathlib.Omega.{arith}
 use lib.Dec.{T, eqb, ltb}
 use lib.ListN.{length, getD}
 use lib.Ieee.{Float}
-use Rattle.base.specs.Lists.{any, bit, collect}
-use Rattle.base.specs.Grid.{Place, origin, Axis, X, Y, Z, axisOf, along, move, back, same, octants}
-use Rattle.rules.specs.Survey.{Cell, cell, cellsOf, cornersOf, cornerRecord, cornerAt, leafOf, wet, wetAt, Survey}
-use Rattle.rules.specs.Steps.{Side, upperSide, lowerSide, sides, Step, face, sideLow, splitAcross, smallFaces, faceSteps, leafSteps}
-use Rattle.rules.specs.Outputs.{rising, accepted, surveyOf}
+use Rattle.base.specs.Lists.{bit}
+use Rattle.base.specs.Grid.{Place, Axis, X, Y, axisOf, along, move, back, octants}
+use Rattle.rules.specs.Survey.{Cell, cell, cellsOf, cornersOf, cornerRecord, cornerAt, placeOf, leafOf, wet, wetAt, Survey}
+use Rattle.rules.specs.Steps.{face, sideLow, faceSteps, leafSteps}
+use Rattle.rules.specs.Outputs.{rising, surveyOf}
 use Rattle.rules.specs.declared.Corner.{Corner}
 use Rattle.rules.specs.declared.Leaf.{Leaf}
-use Rattle.octree.proofs.Lawful.{isCell, CornerOf}
+use Rattle.octree.proofs.Lawful.{isCell}
 use Rattle.records.specs.Keys.{keyOf, placesOf, recordAt}
-use Rattle.records.proofs.Keys.{Bytes}
+use Rattle.records.proofs.Keys.{Bytes, record-short, get-place}
 use Rattle.records.proofs.Found.{corner-found}
-use Rattle.edges.specs.Tables.{placeAt}
-use Rattle.edges.proofs.Find.{found, one-record}
+use Rattle.edges.proofs.Find.{found-self}
 use Rattle.octree.proofs.Aligned.{cell-in-box}
 use Rattle.cells.specs.Laid.{octantKey, cellAt, Laid}
-use Rattle.cells.proofs.Octants.{size-fits}
+use Rattle.octants.specs.Octants.{octantOf, Octant}
 use Rattle.edges.specs.Noting.{keyUnit}
 use Rattle.trace.specs.Trace.{Trace, Recorded}
 use Rattle.faces.specs.Descent.{placeWith, Grown}
-use Rattle.faces.specs.Faces.{sideAt, facet, sideNumber, sideBit, octantBit, LeafAt, Faced, FoundAcross, Listed, ownPattern, cornerMarks, facetSteps}
+use Rattle.faces.specs.Faces.{sideAt, facet, sideNumber, sideBit, octantBit, LeafAt, Faced, FoundAcross, ownPattern, cornerMarks, facetSteps}
 use Rattle.faces.specs.Faces.{sideSteps, smallSteps}
-use Rattle.faces.proofs.Keys.{octant-unit, place-of-key, octant-near, octant-small, octant-place, octant-fits}
+use Rattle.faces.proofs.Keys.{octant-unit, place-of-key}
 use Rattle.faces.proofs.Firsts.{firsts}
-use Rattle.faces.proofs.Looks.{grown, corners-rise, listed}
 use Rattle.faces.proofs.Descent.{tree, cell-is}
 use Rattle.faces.proofs.Across.{whole-steps, eight}
-use Rattle.faces.proofs.Own.{lower-room, key-covers, place-back}
+use Rattle.faces.proofs.Own.{lower-room, key-covers, place-back, low-cond}
 
-pub leaf-room : (tc : List ℕ) → Grown tc → (key level : ℕ) → LeafAt tc key level → (level ≤ 10) × ((a : Axis) → along a (placeWith key) + 2 ^ level ≤ 1024)
-leaf-room tc g key level h =
-    (tree tc g .shallow level (placeWith key) (h .is-cell), cell-in-box (cellsOf tc) (tree tc g) level (placeWith key) (h .is-cell))
+pub leaf-room : (tc : List ℕ) → Grown tc → (n key level : ℕ) → LeafAt tc n key level
+    → (level ≤ 10) × ((a : Axis) → along a (placeWith key) + 2 ^ level ≤ 1024)
+leaf-room tc g n key level h =
+    let c = subst (λ l. T (isCell (cellsOf tc) l (placeWith key))) (h .level-is)
+    (subst (λ p. T (isCell (cellsOf tc) (cellAt tc n .level) p)) (h .low-is) (cell-is tc g n (h .inside))) in
+    (tree tc g .shallow level (placeWith key) c, cell-in-box (cellsOf tc) (tree tc g) level (placeWith key) c)
 
 pub moved-ready : (key level : ℕ) → level ≤ 10 → ((a : Axis) → along a (placeWith key) + 2 ^ level ≤ 1024)
     → (level ≤ 10) × ((a : Axis) → along a (placeWith key) ≤ 1024)
@@ -70,28 +70,30 @@ module _ (n : ℕ) (u : Bool) (key level o s r : ℕ) (e : u ≡ false) (h : (no
 pub side-less : (i : ℕ) → i < 6 → i / 2 < 3
 side-less i h = omega arith
 
-module _ (tc tk : List ℕ) (clearance : Float) (axis : ℕ) (upper : Bool) (key level side : ℕ)
+module _ (tc tk : List ℕ) (clearance : Float) (axis : ℕ) (upper : Bool) (key level side n low : ℕ)
     (at : placeWith side ≡ sideLow (sideAt axis upper) (cell (placeWith key) level false)) where
   -- the side is a side of the leaf
-  pub own-faced : axis < 3 → LeafAt tc key level → Faced tc (facet axis upper side level)
-  own-faced h l = record { axis-less = h; side = (placeWith key, l .is-cell, go upper at) }
-    where
-      go : (u : Bool) → placeWith side ≡ sideLow (sideAt axis u) (cell (placeWith key) level false)
-          → (placeWith side ≡ placeWith key) ⊎ (placeWith side ≡ move (axisOf axis) (2 ^ level) (placeWith key))
-      go true e = inr e
-      go false e = inl e
+  pub own-faced : axis < 3 → LeafAt tc n key level → low ≡ sideBit axis upper → Faced tc (facet axis upper side level n low)
+  own-faced h l e = record {
+    axis-less = h;
+    inside = l .inside;
+    level-is = l .level-is;
+    far = upper;
+    bit-is = e;
+    place-is = at ∙ low-cond axis upper level (placeWith key) ∙ ap (λ p. cond upper (move (axisOf axis) (2 ^ level) p) p) (sym (l .low-is));
+  }
 
   -- the small faces of the cell across
-  pub split-recorded : (t u : Trace) → Recorded (facetSteps (surveyOf tc tk clearance) (facet axis upper side level)) t u
+  pub split-recorded : (t u : Trace) → Recorded (facetSteps (surveyOf tc tk clearance) (facet axis upper side level n low)) t u
       → Recorded (sideSteps (surveyOf tc tk clearance) (sideAt axis upper) (placeWith key) level) t u
   split-recorded t u r = subst (λ p. Recorded (smallSteps (surveyOf tc tk clearance) (sideAt axis upper) p level) t u) at r
 
   -- the own side
-  pub own-recorded : (n : ℕ) (t u : Trace) → FoundAcross tc axis upper key level n → length tc / 4 ≤ n
+  pub own-recorded : (m : ℕ) (t u : Trace) → FoundAcross tc axis upper key level m → length tc / 4 ≤ m
       → Recorded (faceSteps (surveyOf tc tk clearance) (sideAt axis upper) (face (placeWith side) level)) t u
       → Recorded (sideSteps (surveyOf tc tk clearance) (sideAt axis upper) (placeWith key) level) t u
   unfolding surveyOf
-  own-recorded n t u f h r =
+  own-recorded m t u f h r =
       let s = surveyOf tc tk clearance in
       let sd = sideAt axis upper in
       let p = sideLow sd (cell (placeWith key) level false) in
@@ -126,44 +128,15 @@ module _ (n : ℕ) (u : Bool) (low m c o h : ℕ) (el : low ≡ sideBit n u) (em
 
 -- ---- taking up a leaf
 
-module _ (key level i : ℕ) (few : i < 8) (deep : level ≤ 10) (room : (a : Axis) → along a (placeWith key) + 2 ^ level ≤ 1024) where
-  boxed : (a : Axis) → along a (placeWith key) ≤ 1024
-  boxed a = omega (arith, room a)
-
-  small : (a : Axis) → along a (getD (octants (2 ^ level) (placeWith key)) i origin) ≤ 2048
-  small = octant-small key (2 ^ level) i boxed (size-fits level deep) few
-
-  module _ (s r : ℕ) (es : s ≡ 2 ^ level) (er : r ≡ octantKey i s) where
-    pub corner-fits : key + r < 18446744073709551616
-    corner-fits = rw (er, es) (octant-fits key (2 ^ level) i boxed (size-fits level deep) few)
-
-    pub corner-place : placeWith (key + r) ≡ getD (octants (2 ^ level) (placeWith key)) i origin
-    corner-place = rw (er, es) (octant-place key (2 ^ level) i boxed (size-fits level deep) few)
-
-    module _ (tk : List ℕ) (has : (q : Place) → CornerOf level (placeWith key) q → T (any (same q) (placesOf tk))) where
-      in-table : T (any (same (getD (octants (2 ^ level) (placeWith key)) i origin)) (placesOf tk))
-      in-table = has (getD (octants (2 ^ level) (placeWith key)) i origin) (octant-near key (2 ^ level) i boxed (size-fits level deep) few)
-
-      pub corner-listed : Listed tk (key + r)
-      corner-listed = subst (λ q. T (any (same q) (placesOf tk))) (sym corner-place) in-table
-
-      -- the corner that is read is the one that the rules take
-      pub corner-is : Bytes tk → rising (placesOf tk) ≡ true → (k : ℕ) (c : Corner) → (k < length tk / 10) × (placeAt (placesOf tk) k ≡ placeWith (key + r))
-          → c ≡ cornerRecord tk k → c ≡ cornerAt (cornersOf tk) (getD (octants (2 ^ level) (placeWith key)) i origin)
-      corner-is b up k c (h, p) q =
-          let o = getD (octants (2 ^ level) (placeWith key)) i origin in
-          let g = found tk b up o in-table in
-          let same-record : k ≡ recordAt tk (keyOf o) = one-record tk b up k (recordAt tk (keyOf o)) h (g .0) (p ∙ corner-place ∙ sym (g .1)) in
-          q ∙ ap (cornerRecord tk) same-record
-          ∙ sym (corner-found tk b o (record { x-fits = omega (arith, small X); y-fits = omega (arith, small Y) }) (g .0))
-
--- what each corner of a leaf asks
-pub octant-ready : (tc tk : List ℕ) (clearance : Float) → accepted tc tk clearance ≡ true → (key level : ℕ) → LeafAt tc key level → (i : ℕ) → i < 8
-    → (rising (placesOf tk) ≡ true) × (((i < 8) × (level ≤ 10) × ((a : Axis) → along a (placeWith key) + 2 ^ level ≤ 1024))
-    × ((q : Place) → CornerOf level (placeWith key) q → T (any (same q) (placesOf tk))))
-octant-ready tc tk clearance ok key level h i few =
-    let r = leaf-room tc (grown tc tk clearance ok) key level h in
-    (corners-rise tc tk clearance ok, ((few, r .0, r .1), λ q f. listed tc tk clearance ok level (placeWith key) q (h .is-cell) f))
+-- the corner of a record is the one that the rules take at its place
+pub corner-is : (tk : List ℕ) → Bytes tk → rising (placesOf tk) ≡ true → (tc : List ℕ) (n i k : ℕ) (c : Corner) → Octant tc tk n i k → c ≡ cornerRecord tk k
+    → c ≡ cornerAt (cornersOf tk) (octantOf tc n i)
+corner-is tk b up tc n i k c o q =
+    let p = placeOf (cornerRecord tk k) in
+    let e : recordAt tk (keyOf p) ≡ k = found-self tk b up k (o .number) in
+    let f : recordAt tk (keyOf p) < length tk / 10 = omega (arith, o .number) in
+    q ∙ ap (cornerRecord tk) (sym e) ∙ sym (corner-found tk b p (record-short tk b k (o .number)) f)
+    ∙ ap (cornerAt (cornersOf tk)) (sym (get-place tk k (o .number)) ∙ o .place)
 
 -- a list of eight
 pub eight-marks : (f : Corner → ℕ) (d : Corner) (l : List Corner) → length l ≡ 8 → (a b c e g h i j : ℕ)
@@ -184,26 +157,25 @@ eight-marks f d (x0 ∷ x1 ∷ x2 ∷ x3 ∷ x4 ∷ x5 ∷ x6 ∷ x7 ∷ x8 ∷ 
 
 -- ---- the leaf of a record
 
-module _ (tc keys levels : List ℕ) (g : Grown tc) (laid : Laid tc keys levels) (n : ℕ) (h : n < length tc / 4) where
+module _ (tc keys levels : List ℕ) (laid : Laid tc keys levels) (n : ℕ) (h : n < length tc / 4) where
   pub place-is : placeWith (getD keys n 0) ≡ cellAt tc n .low
   place-is =
       let e = laid .entered n h in
       ap placeWith (e .key) ∙ place-of-key (cellAt tc n .low) (omega (arith, e .in-box X)) (omega (arith, e .in-box Y))
 
-  pub leaf-is : LeafAt tc (getD keys n 0) (getD levels n 0)
-  leaf-is = record {
-    is-cell = subst (λ l. T (isCell (cellsOf tc) l (placeWith (getD keys n 0)))) (sym (laid .entered n h .level))
-        (subst (λ p. T (isCell (cellsOf tc) (cellAt tc n .level) p)) (sym place-is) (cell-is tc g n h));
-  }
+  pub leaf-is : LeafAt tc n (getD keys n 0) (getD levels n 0)
+  leaf-is = record { inside = h; level-is = sym (laid .entered n h .level); low-is = sym place-is }
 
-pub leaf-corners : (tk : List ℕ) (key level : ℕ) (l : Leaf) → l ≡ leafOf (cornersOf tk) (cell (placeWith key) level false) → length (l .corners) ≡ 8
+pub leaf-corners : (tk : List ℕ) (c : Cell) (l : Leaf) → l ≡ leafOf (cornersOf tk) c → length (l .corners) ≡ 8
 unfolding leafOf
-leaf-corners tk key level l e = ap (λ (x : Leaf). length (x .corners)) e
+leaf-corners tk c l e = ap (λ (x : Leaf). length (x .corners)) e
 
-pub marks-are : (tk : List ℕ) (clearance : Float) (key level : ℕ) (l : Leaf) (wets : List ℕ) → l ≡ leafOf (cornersOf tk) (cell (placeWith key) level false)
-    → wets ≡ map (λ c. bit (wet clearance c)) (l .corners) → wets ≡ cornerMarks tk clearance key level
+pub marks-are : (tc tk : List ℕ) (clearance : Float) (n key level : ℕ) → LeafAt tc n key level → (l : Leaf) (wets : List ℕ)
+    → l ≡ leafOf (cornersOf tk) (cellAt tc n) → wets ≡ map (λ c. bit (wet clearance c)) (l .corners) → wets ≡ cornerMarks tk clearance key level
 unfolding leafOf cornerMarks wetAt
-marks-are tk clearance key level l wets e f = f ∙ ap (λ (x : Leaf). map (λ c. bit (wet clearance c)) (x .corners)) e
+marks-are tc tk clearance n key level h l wets e f =
+    f ∙ ap (λ (x : Leaf). map (λ c. bit (wet clearance c)) (x .corners)) e
+    ∙ (λ i. map (λ p. bit (wetAt (cornersOf tk) clearance p)) (octants (2 ^ h .level-is i) (h .low-is i)))
 
 -- the steps on the six sides are those of the leaf
 pub sides-recorded : (s : Survey) (c : Cell) (p : Place) (l : ℕ) (t u : Trace) → p ≡ c .low → l ≡ c .level

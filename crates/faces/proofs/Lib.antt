@@ -7,5 +7,6 @@ pub mod Keys
 pub mod Looks
 pub mod Steps
 pub mod Across
+pub mod FaceCorners
 pub mod Own
 pub mod Leaves

@@ -1,57 +1,31 @@
--- What an accepted survey gives for looking up the corners of a face: room in the box, listed corners, and the wet pattern.
-use Prim.Native.Nat.{ℕ, zero, suc, _+_, _*_, _/_, _%_, _^_, _≤_, _<_}
-use mathlib.Core.Path.{_≡_, refl, sym, ap, _∙_, subst}
+-- What an accepted survey gives for the corners of a face: room in the box, and the wet pattern from their marks.
+use Prim.Native.Nat.{ℕ, _+_, _*_, _^_, _≤_, _<_}
+use mathlib.Core.Path.{_≡_, refl, sym, subst}
 use mathlib.Core.Logic.{_⊎_, inl, inr}
 use mathlib.Core.Bool.{Bool, true, false, cond}
 use mathlib.Core.List.{List}
 use native.Mathlib.Omega.{arith}
 use lib.Dec.{T}
-use lib.ListN.{length, getD}
+use lib.ListN.{length}
 use lib.Ieee.{Float}
-use Rattle.base.specs.Lists.{any, bit}
-use Rattle.base.specs.Grid.{Place, Axis, axisOf, along, put, move, same}
-use Rattle.base.proofs.Tests.{→true, true→, bit-le}
-use Rattle.base.proofs.Places.{put-one, along-put}
-use Rattle.rules.specs.Survey.{cellsOf, cornersOf, wetAt}
-use Rattle.rules.specs.Steps.{Side, faceCorner}
+use Rattle.base.specs.Lists.{bit}
+use Rattle.base.specs.Grid.{Place, axisOf, move}
+use Rattle.base.proofs.Tests.{→true, bit-le}
+use Rattle.rules.specs.Survey.{cellsOf}
+use Rattle.rules.specs.Steps.{faceCorner}
 use Rattle.rules.specs.Outputs.{rising, surveyRefusal, accepted, surveyOf}
-use Rattle.octree.proofs.Lawful.{isCell, CornerOf, Octree, Lawful}
+use Rattle.octree.proofs.Lawful.{isCell, Octree}
 use Rattle.octree.proofs.Tree.{octree-of}
-use Rattle.octree.proofs.Accepted.{Checked, checked, checked-lawful, accepted→}
-use Rattle.octree.proofs.Aligned.{corner-place}
-use Rattle.records.specs.Keys.{keyOf, placesOf, recordAt}
-use Rattle.records.proofs.Keys.{Bytes}
-use Rattle.edges.specs.Tables.{placeAt, Wets}
-use Rattle.edges.proofs.Find.{found}
+use Rattle.octree.proofs.Accepted.{checked, accepted→}
+use Rattle.records.specs.Keys.{placesOf}
+use Rattle.cells.specs.Laid.{cellAt}
 use Rattle.edges.proofs.Surveyed.{rises-true, corners-few, cells-few}
 use Rattle.faces.specs.Descent.{placeWith, Grown}
-use Rattle.faces.specs.Patterns.{patternOf}
-use Rattle.faces.specs.Faces.{sideOf, faceOf, SideOf, Room, Faced, Tables, Marked, Listed, facePattern}
+use Rattle.faces.specs.Faces.{sideOf, faceOf, Room, Faced, facePattern}
 use Rattle.faces.specs.declared.Facet.{Facet}
-use Rattle.faces.proofs.Faces.{Axes, side-axes, corner-of}
-use Rattle.faces.proofs.Keys.{key-of-place, across-is, side-room}
-
-pub corner-found : (t : List ℕ) → Bytes t → rising (placesOf t) ≡ true → (key r : ℕ) → Listed t key → r ≡ recordAt t key
-    → (r < length t / 10) × (placeAt (placesOf t) r ≡ placeWith key)
-corner-found t b up key r h e =
-    let q : r ≡ recordAt t (keyOf (placeWith key)) = e ∙ ap (recordAt t) (sym (key-of-place key)) in
-    let f = found t b up (placeWith key) h in
-    (subst (λ k. k < length t / 10) (sym q) (f .0), ap (placeAt (placesOf t)) q ∙ f .1)
-
-pub mark-is : (t : List ℕ) (clearance : Float) (wets : List ℕ) → Marked t clearance wets → (key k : ℕ) → k < length t / 10
-    → placeAt (placesOf t) k ≡ placeWith key → getD wets k 0 ≡ bit (wetAt (cornersOf t) clearance (placeWith key))
-mark-is t clearance wets m key k h e = m .wet .entry k h ∙ ap (λ p. bit (wetAt (cornersOf t) clearance p)) e
-
--- ---- a face in the box
-
--- the corner above the lowest one is in the box
-pub over-boxed : (f : Facet) → Room f → (u over : ℕ) → axisOf u ≡ sideOf f .up → placeWith over ≡ move (axisOf u) (2 ^ f .level) (placeWith (f .key))
-    → (a : Axis) → along a (placeWith over) ≤ 1024
-over-boxed f room u over e g =
-    let s = sideOf f in
-    let p = placeWith (f .key) in
-    subst (λ q. (a : Axis) → along a q ≤ 1024) (sym (g ∙ ap (λ a. move a (2 ^ f .level) p) e))
-    (put-one (λ a v. v ≤ 1024) (s .up) (along (s .up) p + 2 ^ f .level) p (room .up-room) (room .boxed))
+use Rattle.faces.proofs.Faces.{SideOf}
+use Rattle.faces.proofs.Keys.{across-is, side-room}
+use Rattle.faces.proofs.Descent.{cell-is}
 
 -- ---- what an accepted survey gives
 
@@ -71,27 +45,23 @@ module _ (tc tk : List ℕ) (clearance : Float) (ok : accepted tc tk clearance �
   pub cells-small : length tc ≤ 8196
   cells-small = cells-few tc tk no-refusal
 
-  pub marked : (wets : List ℕ) → Wets tk clearance wets → Marked tk clearance wets
-  marked wets w = record { few = corners-few tc tk no-refusal; rises = corners-rise; wet = w }
-
-  -- every corner of a cell is listed
-  pub listed : (l : ℕ) (p q : Place) → T (isCell (cellsOf tc) l p) → CornerOf l p q → T (any (same q) (placesOf tk))
-  unfolding surveyOf
-  listed = checked-lawful tc tk clearance (checked tc tk no-refusal) .listed
+  pub corners-small : length tk ≤ 48720
+  corners-small = corners-few tc tk no-refusal
 
   module _ (f : Facet) (x : Faced tc f) where
     pub side-of : SideOf (cellsOf tc) (sideOf f .across) (f .level) (placeWith (f .key))
-    side-of = subst (λ a. SideOf (cellsOf tc) a (f .level) (placeWith (f .key))) (sym (across-is (f .axis) (f .upper))) (x .side)
+    side-of =
+        let low = cellAt tc (f .cell) .low in
+        subst (λ a. SideOf (cellsOf tc) a (f .level) (placeWith (f .key))) (sym (across-is (f .axis) (f .upper)))
+        (low, subst (λ l. T (isCell (cellsOf tc) l low)) (x .level-is) (cell-is tc grown (f .cell) (x .inside)), go low (x .far) (x .place-is))
+      where
+        go : (low : Place) (far : Bool) → placeWith (f .key) ≡ cond far (move (axisOf (f .axis)) (2 ^ f .level) low) low
+            → (placeWith (f .key) ≡ low) ⊎ (placeWith (f .key) ≡ move (axisOf (f .axis)) (2 ^ f .level) low)
+        go low true e = inr e
+        go low false e = inl e
 
     pub face-room : Room f
     face-room = side-room (cellsOf tc) octree f (x .axis-less) side-of
-
-    -- every corner of the face is listed
-    pub face-listed : (i : ℕ) → T (any (same (faceCorner (sideOf f) (faceOf f) i)) (placesOf tk))
-    face-listed i =
-        let (q, c, h) = side-of in
-        listed (f .level) q (faceCorner (sideOf f) (faceOf f) i) c (corner-of (sideOf f) (side-axes (f .axis) (f .upper)) (f .level)
-        (placeWith (f .key)) q h i)
 
     -- the wet pattern from the marks of the four corners
     pub pattern-is : (a b c d : ℕ) → let s = surveyOf tc tk clearance in let w : ℕ → Bool = λ i. s .isWet (faceCorner (sideOf f) (faceOf f) i) in
@@ -111,24 +81,3 @@ module _ (tc tk : List ℕ) (clearance : Float) (ok : accepted tc tk clearance �
                 (λ u. tt),
           ),
         )
-
-    -- a mark read at a key is that of the corner there
-    pub mark-at : (k : ℕ) (p : Place) (m : ℕ) → placeWith k ≡ p → m ≡ bit (wetAt (cornersOf tk) clearance (placeWith k)) → m
-        ≡ bit (surveyOf tc tk clearance .isWet p)
-    unfolding surveyOf
-    mark-at k p m e h = h ∙ ap (λ q. bit (wetAt (cornersOf tk) clearance q)) e
-
-    pub listed-at : (k : ℕ) (i : ℕ) → placeWith k ≡ faceCorner (sideOf f) (faceOf f) i → Listed tk k
-    listed-at k i e = subst (λ p. T (any (same p) (placesOf tk))) (sym e) (face-listed i)
-
-    -- a move along an axis of the side, by its number
-    pub moved-by : (n d : ℕ) (p q : Place) (a : Axis) → axisOf n ≡ a → q ≡ move (axisOf n) d p → q ≡ move a d p
-    moved-by n d p q a e h = h ∙ ap (λ b. move b d p) e
-
-    -- the corner moved up and then right
-    pub far-corner : (n m over far : ℕ) → axisOf n ≡ sideOf f .right → axisOf m ≡ sideOf f .up → placeWith over
-        ≡ move (axisOf m) (2 ^ f .level) (placeWith (f .key))
-        → placeWith far ≡ move (axisOf n) (2 ^ f .level) (placeWith over) → placeWith far ≡ faceCorner (sideOf f) (faceOf f) 2
-    far-corner n m over far e o g h =
-        moved-by n (2 ^ f .level) (placeWith over) (placeWith far) (sideOf f .right) e h
-        ∙ ap (move (sideOf f .right) (2 ^ f .level)) (moved-by m (2 ^ f .level) (placeWith (f .key)) (placeWith over) (sideOf f .up) o g)

@@ -1,33 +1,31 @@
 -- What is found across a side of a cell, and the wet pattern of its own side.
 use Prim.Native.Nat.{ℕ, zero, suc, _+_, _-_, _*_, _/_, _%_, _^_, _≤_, _<_}
 use mathlib.Core.Path.{_≡_, refl, sym, ap, _∙_, subst}
-use mathlib.Core.Logic.{_⊎_, inl, inr}
 use mathlib.Core.Bool.{Bool, true, false, not, _&&_, cond}
 use mathlib.Core.List.{List, map}
 use native.Mathlib.Omega.{arith}
-use lib.Dec.{T, not-T, eqb, eqb→eq, ltb}
+use lib.Dec.{T, not-T, eqb, ltb}
 use lib.ListN.{length, getD}
-use borrow.Author.Tests.{ltb-false, ltb-true, eq-eqb}
+use borrow.Author.Tests.{ltb-false, ltb-true}
 use lib.ListN.{List·getD-map}
 use lib.Ieee.{Float}
 use Rattle.base.specs.Lists.{any, bit}
-use Rattle.base.specs.Grid.{Place, origin, Axis, X, Y, Z, axisOf, next, along, put, move, back, same, octants}
-use Rattle.base.proofs.Tests.{false→, and→, →true}
+use Rattle.base.specs.Grid.{Place, origin, Axis, X, Y, Z, axisOf, along, put, move, back, same, octants}
+use Rattle.base.proofs.Tests.{false→, and→}
 use Rattle.base.proofs.Lists.{any→in, get-any}
 use Rattle.base.proofs.Places.{same→, along-put, put-put, put-along}
-use Rattle.rules.specs.Survey.{Cell, cell, cellsOf, entry, cornersOf, wetAt}
+use Rattle.rules.specs.Survey.{cell, cellsOf, entry, cornersOf, wetAt}
 use Rattle.rules.specs.Outputs.{surveyOf}
 use Rattle.rules.specs.Steps.{face, sideLow, splitAcross}
-use Rattle.octree.proofs.Lawful.{isCell, isSplit}
+use Rattle.octree.proofs.Lawful.{isSplit}
 use Rattle.octree.proofs.Cells.{split-cell}
-use Rattle.octree.proofs.Aligned.{cell-in-box}
-use Rattle.cells.specs.Laid.{octantKey, cellAt}
+use Rattle.cells.specs.Laid.{cellAt}
 use Rattle.records.specs.Keys.{keyOf}
 use Rattle.edges.specs.Noting.{keyUnit}
 use Rattle.faces.specs.Descent.{placeWith, recordOf, Grown}
-use Rattle.faces.specs.Faces.{sideAt, octantBit, Across, FoundAcross, LeafAt, cornerMarks, ownPattern, facePattern}
+use Rattle.faces.specs.Faces.{sideAt, octantBit, FoundAcross, cornerMarks, ownPattern, facePattern}
 use Rattle.faces.proofs.Keys.{place-of-key}
-use Rattle.faces.proofs.Descent.{tree, cell-is, split-is, record-found, record-none}
+use Rattle.faces.proofs.Descent.{split-is, record-found, record-none}
 use Rattle.faces.proofs.Across.{across-split, quarters, eight}
 
 -- ---- coordinates
@@ -87,6 +85,10 @@ pub side-is : (n : ℕ) (u : Bool) (l : ℕ) (p q : Place) → q ≡ cond u (mov
     → (not u && ltb (along (axisOf n) p) (2 ^ l)) ≡ false → sideLow (sideAt n u) (cell p l false) ≡ cond u q (move (axisOf n) (2 ^ l) q)
 side-is n true l p q e h = sym e
 side-is n false l p q e h = sym (ap (move (axisOf n) (2 ^ l)) e ∙ back-moved (axisOf n) (2 ^ l) p (ltb-false (along (axisOf n) p) (2 ^ l) h))
+
+pub low-cond : (n : ℕ) (u : Bool) (l : ℕ) (p : Place) → sideLow (sideAt n u) (cell p l false) ≡ cond u (move (axisOf n) (2 ^ l) p) p
+low-cond n true l p = refl
+low-cond n false l p = refl
 
 pub low-of-upper : (n : ℕ) (u : Bool) (l : ℕ) (p q : Place) → u ≡ true → q ≡ move (axisOf n) (2 ^ l) p → q ≡ sideLow (sideAt n u) (cell p l false)
 low-of-upper n true l p q e h = h
@@ -152,13 +154,14 @@ module _ (tc : List ℕ) (g : Grown tc) (n : ℕ) (u : Bool) (key level : ℕ) (
     -- a split cell of the size is there
     pub cell-across : r < length tc / 4 → FoundAcross tc n u key level r
     cell-across h =
-        let (a, b) = there h in
+        let (a, p) = there h in
         record {
-          split = λ l side e. record {
+          split = λ l side low e b. record {
             axis-less = few;
             inside = h;
             level-is = a;
-            low-is = e ∙ side-is n u level (placeWith key) (placeWith k) place room ∙ ap (λ q. cond u q (move (axisOf n) (2 ^ level) q)) (sym b);
+            bit-is = b;
+            low-is = e ∙ side-is n u level (placeWith key) (placeWith k) place room ∙ ap (λ q. cond u q (move (axisOf n) (2 ^ level) q)) (sym p);
           };
           whole = λ l. absurd (omega arith);
         }
@@ -196,7 +199,3 @@ own-is tk clearance tc n u key level wet side e f =
     one-bit : (b : Bool) → bit (eqb (bit b) 1) ≡ bit b
     one-bit true = refl
     one-bit false = refl
-
-    low-cond : (n : ℕ) (u : Bool) (l : ℕ) (p : Place) → sideLow (sideAt n u) (cell p l false) ≡ cond u (move (axisOf n) (2 ^ l) p) p
-    low-cond n true l p = refl
-    low-cond n false l p = refl

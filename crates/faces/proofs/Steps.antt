@@ -1,20 +1,19 @@
 -- The points of a face's odd edges, the steps of its four rows recorded one after the other, and those of its quarters.
-use Prim.Native.Nat.{ℕ, zero, suc, _+_, _*_, _/_, _^_, _≤_, _<_}
+use Prim.Native.Nat.{ℕ, zero, suc, _/_, _%_, _≤_, _<_}
 use mathlib.Core.Path.{_≡_, refl, sym, ap, _∙_, subst}
 use mathlib.Core.Logic.{_⊎_, inl, inr}
-use mathlib.Core.Bool.{Bool, true, false, not, cond}
-use mathlib.Core.List.{List, [], _∷_, _++_, map}
+use mathlib.Core.Bool.{Bool, true, cond}
+use mathlib.Core.List.{List, [], _∷_, map}
 use native.Mathlib.Omega.{arith}
-use lib.Dec.{T, ltb}
-use lib.ListN.{length, getD}
+use lib.Dec.{T}
+use lib.ListN.{length}
 use lib.Ieee.{Float}
 use borrow.Author.Tests.{lt-ltb, le-ltb}
-use Rattle.base.specs.Lists.{any, bit}
-use Rattle.base.specs.Grid.{Place, Axis, axisOf, same}
-use Rattle.base.proofs.Tests.{→true, true→, bit-le}
-use Rattle.rules.specs.Survey.{cellsOf, cornersOf, wetAt}
-use Rattle.rules.specs.Edges.{CellEdge, edge, isEdge, odd, pointEdges, carrier, pointOf}
-use Rattle.rules.specs.Steps.{Side, Face, face, faceCorner, faceEdge, Step, faceSteps}
+use Rattle.base.specs.Grid.{Place, axisOf}
+use Rattle.base.proofs.Tests.{→true, below}
+use Rattle.rules.specs.Survey.{cellsOf, cornersOf, wetAt, Survey}
+use Rattle.rules.specs.Edges.{edge, isEdge, odd, pointEdges, carrier, pointOf}
+use Rattle.rules.specs.Steps.{Side, Face, faceCorner, faceEdge, Step, faceSteps}
 use Rattle.rules.specs.Outputs.{accepted, surveyOf}
 use Rattle.octree.proofs.Accepted.{lawful}
 use Rattle.octree.proofs.Halves.{carrier-crossed}
@@ -25,20 +24,12 @@ use Rattle.edges.proofs.TwinSlots.{points-few}
 use Rattle.trace.specs.Trace.{Trace, Sized, Recorded}
 use Rattle.trace.proofs.Laws.{recorded-none}
 use Rattle.faces.specs.Descent.{placeWith}
-use Rattle.faces.specs.Patterns.{stepFrom, patternOf, stepTo}
-use Rattle.faces.specs.Faces.{sideOf, faceOf, SideOf, Faced, Marked, Listed, OddAt, facePattern, pointStep, rowSteps}
+use Rattle.faces.specs.Patterns.{stepFrom, stepTo}
+use Rattle.faces.specs.Faces.{sideOf, faceOf, Faced, OddAt, facePattern, pointStep, rowSteps}
 use Rattle.faces.specs.declared.Facet.{Facet}
-use Rattle.faces.proofs.Faces.{Axes, side-axes, edge-of, odd-is, differ, step-odd, face-rows}
+use Rattle.faces.proofs.Faces.{side-axes, edge-of, odd-is, step-odd, face-rows}
 use Rattle.faces.proofs.Firsts.{firsts}
-use Rattle.faces.proofs.Looks.{mark-is, octree, face-listed, side-of}
-
--- a mark that is read
-pub mark-read : (t : List ℕ) (clearance : Float) (wets : List ℕ) → Marked t clearance wets → (key k r : ℕ)
-    → (k < length t / 10) × (placeAt (placesOf t) k ≡ placeWith key) → r ≡ getD wets k 0
-    → (r ≡ bit (wetAt (cornersOf t) clearance (placeWith key))) × (r ≤ 1)
-mark-read t clearance wets m key k r (h, e) q =
-    let d = q ∙ mark-is t clearance wets m key k h e in
-    (d, omega (arith, bit-le (wetAt (cornersOf t) clearance (placeWith key)) true (λ u. tt)))
+use Rattle.faces.proofs.Looks.{side-of}
 
 whole-edge : (s : Side) (f : Face) (i : ℕ) → edge (faceEdge s f i .axis) (faceEdge s f i .low) (f .level) ≡ faceEdge s f i
 whole-edge s f zero = refl
@@ -46,36 +37,30 @@ whole-edge s f (suc zero) = refl
 whole-edge s f (suc (suc zero)) = refl
 whole-edge s f (suc (suc (suc i))) = refl
 
+-- all corners dry, all corners wet
+no-rows : (s : Survey) (side : Side) (f : Face) → (firsts (rowSteps s side f 0) 4 ≡ []) × (firsts (rowSteps s side f 15) 4 ≡ [])
+unfolding rowSteps stepFrom
+no-rows s side f = (refl, refl)
+
 module _ (tc tk : List ℕ) (clearance : Float) (ok : accepted tc tk clearance ≡ true)
     (f : Facet) (x : Faced tc f) where
-  -- the lower end of edge i is listed
-  pub low-listed : (k i : ℕ) → placeWith k ≡ faceEdge (sideOf f) (faceOf f) i .low → Listed tk k
-  low-listed k i e = subst (λ p. T (any (same p) (placesOf tk))) (sym e) (at i)
-    where
-      at : (i : ℕ) → T (any (same (faceEdge (sideOf f) (faceOf f) i .low)) (placesOf tk))
-      at zero = face-listed tc tk clearance ok f x 0
-      at (suc zero) = face-listed tc tk clearance ok f x 1
-      at (suc (suc zero)) = face-listed tc tk clearance ok f x 3
-      at (suc (suc (suc i))) = face-listed tc tk clearance ok f x 0
-
   is-edge : (i : ℕ) → let e = faceEdge (sideOf f) (faceOf f) i in T (isEdge (cellsOf tc) (e .axis) (e .low) (f .level))
   is-edge i =
       let (q, c, h) = side-of tc tk clearance ok f x in
       edge-of (sideOf f) (side-axes (f .axis) (f .upper)) (f .level) (placeWith (f .key)) q h (cellsOf tc) c i
 
   -- what the point of an odd edge asks
-  pub edge-ready : (i n k ek : ℕ) → axisOf n ≡ faceEdge (sideOf f) (faceOf f) i .axis
-      → placeWith ek ≡ faceEdge (sideOf f) (faceOf f) i .low
-      → (k < length tk / 10) × (placeAt (placesOf tk) k ≡ placeWith ek) → OddAt tk clearance f i
+  pub edge-ready : (i n k : ℕ) → axisOf n ≡ faceEdge (sideOf f) (faceOf f) i .axis
+      → (k < length tk / 10) × (placeAt (placesOf tk) k ≡ faceEdge (sideOf f) (faceOf f) i .low) → OddAt tk clearance f i
       → OddEdge tc tk clearance (axisOf n) k (f .level)
-  edge-ready i n k ek a p (h, e) o = record {
+  edge-ready i n k a (h, e) o = record {
     inside = h;
     is-edge =
         subst (λ b. T (isEdge (cellsOf tc) b (placeAt (placesOf tk) k) (f .level))) (sym a)
-        (subst (λ q. T (isEdge (cellsOf tc) (faceEdge sd fc i .axis) q (f .level))) (sym (e ∙ p)) (is-edge i));
+        (subst (λ q. T (isEdge (cellsOf tc) (faceEdge sd fc i .axis) q (f .level))) (sym e) (is-edge i));
     is-odd =
         subst (λ b. T (odd (wetAt (cornersOf tk) clearance) b (placeAt (placesOf tk) k) (f .level))) (sym a)
-        (subst (λ q. T (odd (wetAt (cornersOf tk) clearance) (faceEdge sd fc i .axis) q (f .level))) (sym (e ∙ p)) o);
+        (subst (λ q. T (odd (wetAt (cornersOf tk) clearance) (faceEdge sd fc i .axis) q (f .level))) (sym e) o);
   }
     where
       sd : Side
@@ -85,20 +70,19 @@ module _ (tc tk : List ℕ) (clearance : Float) (ok : accepted tc tk clearance �
       fc = faceOf f
 
   -- the point that is found is that of the edge, and it is one of the points
-  pub point-is : (lowest : List ℕ) → Lowest tc tk lowest → (i n k ek r : ℕ) → axisOf n ≡ faceEdge (sideOf f) (faceOf f) i .axis
-      → placeWith ek ≡ faceEdge (sideOf f) (faceOf f) i .low
-      → (k < length tk / 10) × (placeAt (placesOf tk) k ≡ placeWith ek) → OddAt tk clearance f i
+  pub point-is : (lowest : List ℕ) → Lowest tc tk lowest → (i n k r : ℕ) → axisOf n ≡ faceEdge (sideOf f) (faceOf f) i .axis
+      → (k < length tk / 10) × (placeAt (placesOf tk) k ≡ faceEdge (sideOf f) (faceOf f) i .low) → OddAt tk clearance f i
       → r ≡ pointOf (surveyOf tc tk clearance) (edge (axisOf n) (placeAt (placesOf tk) k) (f .level))
       → (r ≡ pointOf (surveyOf tc tk clearance) (faceEdge (sideOf f) (faceOf f) i)) × (r < 14616)
   unfolding surveyOf pointOf
-  point-is lowest low i n k ek r a p (h, e) o q =
+  point-is lowest low i n k r a (h, e) o q =
       let s = surveyOf tc tk clearance in
       let sd = sideOf f in
       let fc = faceOf f in
       let g = faceEdge sd fc i in
       let law = lawful tc tk clearance (→true ok) in
       let w : edge (axisOf n) (placeAt (placesOf tk) k) (f .level) ≡ g =
-      ap (λ b. edge b (placeAt (placesOf tk) k) (f .level)) a ∙ ap (λ x. edge (g .axis) x (f .level)) (e ∙ p) ∙ whole-edge sd fc i in
+      ap (λ b. edge b (placeAt (placesOf tk) k) (f .level)) a ∙ ap (λ x. edge (g .axis) x (f .level)) e ∙ whole-edge sd fc i in
       let m : pointOf s (edge (g .axis) (g .low) (f .level)) < length (pointEdges s) = crossed-carries s law (carrier s (g .axis) (g .low) (f .level))
       (carrier-crossed s (law .octree) (g .axis) (g .low) (f .level) (is-edge i) o) .0 in
       let z : pointOf s (edge (g .axis) (g .low) (f .level)) ≡ pointOf s g = ap (pointOf s) (whole-edge sd fc i) in
@@ -150,3 +134,17 @@ module _ (tc tk : List ℕ) (clearance : Float) (ok : accepted tc tk clearance �
   rows-recorded pattern t u e r =
       let rows : ℕ → List Step = λ p. firsts (rowSteps (surveyOf tc tk clearance) (sideOf f) (faceOf f) p) 4 in
       subst (λ ss. Recorded ss t u) (ap rows e ∙ sym (face-rows tc tk clearance (sideOf f) (faceOf f))) r
+
+  -- no row has a step where the corners are all dry or all wet
+  pub rows-none : (pattern : ℕ) (t : Trace) → pattern < 16 → pattern % 15 ≡ 0 → pattern ≡ facePattern (surveyOf tc tk clearance) (sideOf f) (faceOf f)
+      → Sized t → Recorded (faceSteps (surveyOf tc tk clearance) (sideOf f) (faceOf f)) t t
+  rows-none pattern t h z e s =
+      rows-recorded pattern t t e (subst (λ ss. Recorded ss t t) (sym (go (below pattern 15))) (recorded-none t s))
+    where
+      go : (pattern < 15) ⊎ (15 ≤ pattern) → firsts (rowSteps (surveyOf tc tk clearance) (sideOf f) (faceOf f) pattern) 4 ≡ []
+      go (inl l) =
+          let q : pattern ≡ 0 = omega arith in
+          ap (λ p. firsts (rowSteps (surveyOf tc tk clearance) (sideOf f) (faceOf f) p) 4) q ∙ no-rows (surveyOf tc tk clearance) (sideOf f) (faceOf f) .0
+      go (inr l) =
+          let q : pattern ≡ 15 = omega arith in
+          ap (λ p. firsts (rowSteps (surveyOf tc tk clearance) (sideOf f) (faceOf f) p) 4) q ∙ no-rows (surveyOf tc tk clearance) (sideOf f) (faceOf f) .1

@@ -1,23 +1,21 @@
 -- A side of a cell and a face by numbers, as the code has them, and the steps in a face row by row of the table.
 use Prim.Native.Nat.{ℕ, zero, suc, _+_, _-_, _*_, _/_, _%_, _^_, _≤_, _<_}
 use mathlib.Core.Path.{_≡_}
-use mathlib.Core.Logic.{_⊎_}
 use mathlib.Core.Bool.{Bool, true, false, not, cond}
 use mathlib.Core.List.{List, map}
-use lib.Dec.{T, eqb}
+use lib.Dec.{T, eqb, ltb}
 use lib.ListN.{length, getD}
 use lib.Ieee.{Float}
 use Rattle.base.specs.Lists.{any, collect, bit}
-use Rattle.base.specs.Grid.{Place, Axis, X, Y, Z, axisOf, along, move, same, octants}
-use Rattle.rules.specs.Survey.{Cell, cell, cellsOf, cornersOf, wetAt, Survey}
+use Rattle.base.specs.Grid.{Place, Axis, X, Y, Z, axisOf, along, move, octants}
+use Rattle.rules.specs.Survey.{cell, cellsOf, cornersOf, wetAt, Survey}
 use Rattle.rules.specs.Edges.{odd, pointOf}
 use Rattle.rules.specs.Steps.{Side, upperSide, lowerSide, Face, face, faceCorner, faceEdge, Step, sideLow, splitAcross, smallFaces, faceSteps}
-use Rattle.rules.specs.Outputs.{rising, accepted, surveyOf}
-use Rattle.octree.proofs.Lawful.{isCell}
+use Rattle.rules.specs.Outputs.{accepted, surveyOf}
 use Rattle.records.specs.Keys.{placesOf}
 use Rattle.cells.specs.Laid.{octantKey, cellAt}
 use Rattle.octants.specs.Octants.{Octants}
-use Rattle.edges.specs.Tables.{Wets, Lowest, Far, Numbers}
+use Rattle.edges.specs.Tables.{placeAt, Wets, Lowest, Far, Numbers}
 use Rattle.faces.specs.Descent.{placeWith}
 use Rattle.faces.specs.Patterns.{stepFrom, patternOf, stepTo}
 use Rattle.faces.specs.declared.Facet.{Facet}
@@ -27,8 +25,8 @@ abbrev pub sideAt : ℕ → Bool → Side
 sideAt n true = upperSide (axisOf n)
 sideAt n false = lowerSide (axisOf n)
 
-abbrev pub facet : ℕ → Bool → ℕ → ℕ → Facet
-facet axis upper key level = record { axis = axis; upper = upper; key = key; level = level }
+abbrev pub facet : ℕ → Bool → ℕ → ℕ → ℕ → ℕ → Facet
+facet axis upper key level cell low = record { axis = axis; upper = upper; key = key; level = level; cell = cell; low = low }
 
 -- the side that a facet is on, and the facet as a face
 abbrev pub sideOf : Facet → Side
@@ -43,35 +41,38 @@ octantBit X = 1
 octantBit Y = 2
 octantBit Z = 4
 
--- p is the lowest corner of the lower or the upper side, on the axis a, of a cell of level l
-abbrev pub SideOf : List Cell → Axis → ℕ → Place → Type 0
-SideOf cells a l p = (q : Place) × T (isCell cells l q) × ((p ≡ q) ⊎ (p ≡ move a (2 ^ l) q))
+-- the number of the lowest corner, or child, on the upper or the lower side of a cell
+abbrev pub sideBit : ℕ → Bool → ℕ
+sideBit n upper = cond upper (octantBit (axisOf n)) 0
 
 -- a facet is in the box
 pub record Room (f : Facet) : Type 0 where
   pub axis-less : f .axis < 3
   pub level-less : f .level ≤ 10
   pub boxed : (a : Axis) → along a (placeWith (f .key)) ≤ 1024
-  pub right-room : along (sideOf f .right) (placeWith (f .key)) + 2 ^ f .level ≤ 1024
-  pub up-room : along (sideOf f .up) (placeWith (f .key)) + 2 ^ f .level ≤ 1024
 
--- a facet is a side of a cell
+-- a facet is a side of the cell of its record, the upper one where `far` says so
 pub record Faced (tc : List ℕ) (f : Facet) : Type 0 where
   pub axis-less : f .axis < 3
-  pub side : SideOf (cellsOf tc) (axisOf (f .axis)) (f .level) (placeWith (f .key))
+  pub inside : f .cell < length tc / 4
+  pub level-is : cellAt tc (f .cell) .level ≡ f .level
+  pub far : Bool
+  pub bit-is : f .low ≡ sideBit (f .axis) far
+  pub place-is : placeWith (f .key) ≡ cond far (move (axisOf (f .axis)) (2 ^ f .level) (cellAt tc (f .cell) .low)) (cellAt tc (f .cell) .low)
 
--- record n is about a cell whose side towards a leaf is that facet: it lies across the leaf's upper or lower side
-pub record Across (tc : List ℕ) (f : Facet) (n : ℕ) : Type 0 where
+-- the cell of a facet's record lies across the leaf's upper or lower side, and its side towards the leaf is the facet
+pub record Across (tc : List ℕ) (f : Facet) : Type 0 where
   pub axis-less : f .axis < 3
-  pub inside : n < length tc / 4
-  pub level-is : cellAt tc n .level ≡ f .level
-  pub low-is : placeWith (f .key) ≡ cond (f .upper) (cellAt tc n .low) (move (axisOf (f .axis)) (2 ^ f .level) (cellAt tc n .low))
+  pub inside : f .cell < length tc / 4
+  pub level-is : cellAt tc (f .cell) .level ≡ f .level
+  pub bit-is : f .low ≡ sideBit (f .axis) (not (f .upper))
+  pub low-is : placeWith (f .key) ≡ cond (f .upper) (cellAt tc (f .cell) .low) (move (axisOf (f .axis)) (2 ^ f .level) (cellAt tc (f .cell) .low))
 
 -- what is found across a side of the cell of a level at the place with a key: the record of the split cell of that size, or no record, where
 -- there is none
 pub record FoundAcross (tc : List ℕ) (axis : ℕ) (upper : Bool) (key level n : ℕ) : Type 0 where
-  pub split : n < length tc / 4 → (side : ℕ) → placeWith side ≡ sideLow (sideAt axis upper) (cell (placeWith key) level false) →
-      Across tc (facet axis upper side level) n
+  pub split : n < length tc / 4 → (side low : ℕ) → placeWith side ≡ sideLow (sideAt axis upper) (cell (placeWith key) level false) →
+      low ≡ sideBit axis (not upper) → Across tc (facet axis upper side level n low)
   pub whole : length tc / 4 ≤ n →
       any (splitAcross (sideAt axis upper) (sideLow (sideAt axis upper) (cell (placeWith key) level false)) level) (cellsOf tc) ≡ false
 
@@ -85,18 +86,20 @@ pub record Tables (tc tk : List ℕ) (clearance : Float) (wets lowest far number
   pub octant : Octants tc tk octants
 
 -- the tables of corners alone
-pub record Marked (tk : List ℕ) (clearance : Float) (wets : List ℕ) : Type 0 where
-  pub few : length tk ≤ 48720
-  pub rises : rising (placesOf tk) ≡ true
+pub record Marked (tc tk : List ℕ) (clearance : Float) (wets octants : List ℕ) : Type 0 where
+  pub passed : accepted tc tk clearance ≡ true
   pub wet : Wets tk clearance wets
+  pub octant : Octants tc tk octants
 
--- the cell of a level at the place with a key is a cell of the survey
-pub record LeafAt (tc : List ℕ) (key level : ℕ) : Type 0 where
-  pub is-cell : T (isCell (cellsOf tc) level (placeWith key))
+-- the cell of record n is that of a level at the place with a key
+pub record LeafAt (tc : List ℕ) (n key level : ℕ) : Type 0 where
+  pub inside : n < length tc / 4
+  pub level-is : cellAt tc n .level ≡ level
+  pub low-is : cellAt tc n .low ≡ placeWith key
 
--- a corner record is at the place with a key
-abbrev pub Listed : List ℕ → ℕ → Type 0
-Listed tk key = T (any (same (placeWith key)) (placesOf tk))
+-- k is the number of the corner record at corner j of a facet
+abbrev pub FacetCorner : List ℕ → Facet → ℕ → ℕ → Type 0
+FacetCorner tk f j k = (k < length tk / 10) × (placeAt (placesOf tk) k ≡ faceCorner (sideOf f) (faceOf f) j)
 
 -- the wet marks of the eight corners of a cube, 1 or 0
 unfoldable pub cornerMarks : List ℕ → Float → ℕ → ℕ → List ℕ
@@ -125,24 +128,22 @@ OddAt tk clearance f i =
     let e = faceEdge (sideOf f) (faceOf f) i in
     T (odd (wetAt (cornersOf tk) clearance) (e .axis) (e .low) (f .level))
 
--- the number of the child next to a side of the cell below it, or of the corner on its own side
-abbrev pub sideBit : ℕ → Bool → ℕ
-sideBit n upper = cond upper (octantBit (axisOf n)) 0
-
--- how much quarter i of a side adds to the number of a child: the quarters go right, then up
+-- how much quarter i of a side adds to the number of a child, or of a corner: the quarters go right, then up
 abbrev pub quarterBit : Side → ℕ → ℕ
 quarterBit s zero = 0
 quarterBit s (suc zero) = octantBit (s .right)
 quarterBit s (suc (suc zero)) = octantBit (s .up)
 quarterBit s (suc (suc (suc i))) = octantBit (s .right) + octantBit (s .up)
 
--- quarter i of a facet
-unfoldable pub quarterOf : Facet → ℕ → Facet
-quarterOf f i = facet (f .axis) (f .upper) (f .key + octantKey (quarterBit (sideOf f) i) (2 ^ (f .level - 1))) (f .level - 1)
+-- the quarter at corner j of a face: the corners go round
+abbrev pub cornerQuarter : ℕ → ℕ
+cornerQuarter j = cond (ltb j 2) j (5 - j)
 
--- the number of the child, of the cell across, of which quarter i of a facet is a side
-abbrev pub childAcross : Facet → ℕ → ℕ
-childAcross f i = sideBit (f .axis) (not (f .upper)) + quarterBit (sideOf f) i
+-- quarter i of a facet: a side of the child, of the facet's cell, that has the number of the cell's corner there; the first child is in record n
+unfoldable pub quarterOf : Facet → ℕ → ℕ → Facet
+quarterOf f n i =
+    let b = quarterBit (sideOf f) i in
+    facet (f .axis) (f .upper) (f .key + octantKey b (2 ^ (f .level - 1))) (f .level - 1) (n + (f .low + b)) (f .low)
 
 -- the wet pattern of the side of a cell, from the marks of its eight corners
 unfoldable pub ownPattern : List ℕ → ℕ → Bool → ℕ

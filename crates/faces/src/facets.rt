@@ -1,11 +1,13 @@
-// The edges and the quarters of a facet.
+// The corners, the edges and the quarters of a facet.
 ghost use mathlib.Core.Path.{_≡_};
-ghost use Prim.Native.Nat.{_<_};
+ghost use Prim.Native.Nat.{_≤_, _<_};
+ghost use lib.ListN.{length};
 ghost use Rattle.base.specs.Grid.{axisOf};
-ghost use Rattle.rules.specs.Steps.{faceEdge};
-ghost use Rattle.faces.specs.Descent.{placeWith};
-ghost use Rattle.faces.specs.Faces.{sideOf, faceOf, Room, quarterBit, quarterOf, childAcross};
+ghost use Rattle.rules.specs.Steps.{Side, Face, faceCorner, faceEdge};
+ghost use Rattle.octants.specs.Octants.{Octants};
+ghost use Rattle.faces.specs.Faces.{sideOf, faceOf, Room, Faced, FacetCorner, quarterBit, cornerQuarter, quarterOf};
 use super::Facet;
+use super::corners;
 use super::sides;
 
 // The axis of edge i of a facet.
@@ -19,23 +21,18 @@ pub fn edge_axis(facet: Facet, i: usize) -> u32
     sides::up(facet.axis, facet.upper)
 }
 
-// The key of the lower end of edge i of a facet.
-pub fn edge_key(facet: Facet, i: usize) -> u64
-    requires { ⌜ Room facet ⌝ }
+// The number, among the corners of a facet, of the lower end of edge i.
+pub fn edge_corner(i: usize) -> usize
     requires { ⌜ i < 4 ⌝ }
-    ensures { λ r. ⌜ placeWith r ≡ faceEdge (sideOf facet) (faceOf facet) i .low ⌝ }
+    ensures { λ r. ⌜ (r < 4) × ((s : Side) (f : Face) → faceCorner s f r ≡ faceEdge s f i .low) ⌝ }
 {
     if i == 1 {
-        return sides::moved(
-            facet.key,
-            sides::right(facet.axis, facet.upper),
-            facet.level,
-        );
+        return 1;
     }
     if i == 2 {
-        return sides::moved(facet.key, sides::up(facet.axis, facet.upper), facet.level);
+        return 3;
     }
-    facet.key
+    0
 }
 
 // How much quarter i of a facet adds to the number of a child, or of a corner, of a cell: the quarters go right, then up.
@@ -57,26 +54,44 @@ fn quarter_bit(facet: Facet, i: usize) -> usize
     side + over
 }
 
-// Quarter i of a facet.
-pub fn quarter(facet: Facet, i: usize) -> Facet
+// The quarter of a facet at its corner j: corners go round, quarters row by row.
+fn corner_quarter(j: usize) -> usize
+    requires { ⌜ j < 4 ⌝ }
+    ensures { λ r. ⌜ (r ≡ cornerQuarter j) × (r < 4) ⌝ }
+{
+    if j < 2 {
+        return j;
+    }
+    5 - j
+}
+
+// The corner record at corner j of a facet.
+pub fn facet_corner(cells: &[u8], corners: &[u8], octants: &[u16], facet: Facet, j: usize) -> usize
+    requires { ⌜ (length (now cells) ≤ 8196) × Octants (now cells) (now corners) (now octants) ⌝ }
+    requires { ⌜ Faced (now cells) facet ⌝ }
+    requires { ⌜ j < 4 ⌝ }
+    ensures { λ r. ⌜ FacetCorner (now (corners .entry)) facet j r ⌝ }
+{
+    let bit = quarter_bit(facet, corner_quarter(j));
+    corners::octant_record(cells, corners, octants, facet.cell, facet.low + bit)
+}
+
+// Quarter i of a facet of the split cell whose first child is in record `first`.
+pub fn quarter(facet: Facet, first: usize, i: usize) -> Facet
     requires { ⌜ Room facet ⌝ }
     requires { ⌜ (0 < facet .level) × (i < 4) ⌝ }
-    ensures { λ r. ⌜ r ≡ quarterOf facet i ⌝ }
+    requires { ⌜ (first ≤ 2048) × (facet .low ≤ 4) ⌝ }
+    ensures { λ r. ⌜ r ≡ quarterOf facet first i ⌝ }
 {
     let half = facet.level - 1;
-    let add = cells::octant_key(quarter_bit(facet, i), cells::size_of(half));
+    let bit = quarter_bit(facet, i);
+    let add = cells::octant_key(bit, cells::size_of(half));
     Facet {
         axis: facet.axis,
         upper: facet.upper,
         key: facet.key + add,
         level: half,
+        cell: first + (facet.low + bit),
+        low: facet.low,
     }
-}
-
-// The number of the child, of the cell across, of which quarter i of a facet is a side.
-pub fn child_across(facet: Facet, i: usize) -> usize
-    requires { ⌜ (facet .axis < 3) × (i < 4) ⌝ }
-    ensures { λ r. ⌜ (r ≡ childAcross facet i) × (r < 8) ⌝ }
-{
-    sides::side_bit(facet.axis, !facet.upper) + quarter_bit(facet, i)
 }

@@ -1,19 +1,20 @@
 // The small faces on the sides of a leaf and the steps in them, recorded as the leaf's trace.
-// Uses records, reader, cells, edges and trace.
+// Uses records, cells, edges and trace.
 ghost use mathlib.Core.Path.{_≡_};
-ghost use mathlib.Core.Bool.{true, false};
+ghost use mathlib.Core.Bool.{true};
 ghost use mathlib.Core.List.{map};
 ghost use Prim.Native.Nat.{_/_, _≤_, _<_};
 ghost use lib.ListN.{length};
 ghost use Rattle.base.specs.Lists.{bit};
-ghost use Rattle.rules.specs.Survey.{cell, cornersOf, leafOf, wet};
+ghost use Rattle.rules.specs.Survey.{cornersOf, leafOf, wet};
 ghost use Rattle.rules.specs.Steps.{leafSteps};
 ghost use Rattle.rules.specs.Outputs.{accepted, surveyOf};
 ghost use Rattle.cells.specs.Laid.{Laid, cellAt};
+ghost use Rattle.octants.specs.Octants.{Octants};
 ghost use Rattle.trace.specs.Trace.{trace, Sized, Recorded};
 ghost use Rattle.faces.specs.Patterns.{stepFrom};
 ghost use Rattle.faces.specs.Descent.{placeWith, recordOf, Grown};
-ghost use Rattle.faces.specs.Faces.{Tables, LeafAt};
+ghost use Rattle.faces.specs.Faces.{Tables};
 use rules::Leaf;
 
 mod corners;
@@ -23,12 +24,15 @@ mod patterns;
 mod recording;
 mod sides;
 
-// A face on a side of a leaf, the whole side or a part of it: the axis and the end of the side, the key of the lowest corner, and the level.
+// A face on a side of a leaf, the whole side or a part of it: the axis and the end of the side, the key of the lowest corner, and the level;
+// the record of a cell of which it is a side, and the number of its lowest corner among that cell's eight.
 pub struct Facet {
     pub axis: u32,
     pub upper: bool,
     pub key: u64,
     pub level: u8,
+    pub cell: usize,
+    pub low: usize,
 }
 
 // For each of the sixteen wet patterns of a face (bit i: corner i is wet; corners go counter-clockwise, seen from outside the leaf), the edge to
@@ -72,22 +76,23 @@ pub fn record_of(cells: &[u8], level: u8, key: u64) -> usize
     descend::go_down(cells, level, key)
 }
 
-// Takes up a leaf with its eight corners side by side.
-pub fn leaf_at(cells: &[u8], corners: &[u8], clearance: f32, key: u64, level: u8) -> Leaf
+// Takes up the leaf of record `n` with its eight corners side by side.
+pub fn leaf_at(cells: &[u8], corners: &[u8], clearance: f32, octants: &[u16], n: usize) -> Leaf
     requires { ⌜ accepted (now cells) (now corners) clearance ≡ true ⌝ }
-    requires { ⌜ LeafAt (now cells) key level ⌝ }
-    ensures { λ r. ⌜ r ≡ leafOf (cornersOf (now (corners .entry))) (cell (placeWith key) level false) ⌝ }
+    requires { ⌜ Octants (now cells) (now corners) (now octants) ⌝ }
+    requires { ⌜ n < length (now cells) / 4 ⌝ }
+    ensures { λ r. ⌜ r ≡ leafOf (cornersOf (now (corners .entry))) (cellAt (now (cells .entry)) n) ⌝ }
 {
     Leaf {
         corners: [
-            corners::octant_corner(corners, key, level, 0),
-            corners::octant_corner(corners, key, level, 1),
-            corners::octant_corner(corners, key, level, 2),
-            corners::octant_corner(corners, key, level, 3),
-            corners::octant_corner(corners, key, level, 4),
-            corners::octant_corner(corners, key, level, 5),
-            corners::octant_corner(corners, key, level, 6),
-            corners::octant_corner(corners, key, level, 7),
+            corners::octant_corner(cells, corners, clearance, octants, n, 0),
+            corners::octant_corner(cells, corners, clearance, octants, n, 1),
+            corners::octant_corner(cells, corners, clearance, octants, n, 2),
+            corners::octant_corner(cells, corners, clearance, octants, n, 3),
+            corners::octant_corner(cells, corners, clearance, octants, n, 4),
+            corners::octant_corner(cells, corners, clearance, octants, n, 5),
+            corners::octant_corner(cells, corners, clearance, octants, n, 6),
+            corners::octant_corner(cells, corners, clearance, octants, n, 7),
         ],
     }
 }
@@ -135,7 +140,7 @@ pub fn leaf_steps(
 {
     let key = keys[n];
     let level = levels[n];
-    let wet = leaf_marks(leaf_at(cells, corners, clearance, key, level), clearance);
+    let wet = leaf_marks(leaf_at(cells, corners, clearance, octants, n), clearance);
     let mut i: u32 = 0;
     while i < 6 {
         recording::side_steps(
@@ -150,6 +155,7 @@ pub fn leaf_steps(
             nexts,
             marks,
             blocks,
+            n,
             key,
             level,
             wet,

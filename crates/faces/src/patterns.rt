@@ -1,37 +1,54 @@
-// The wet pattern of a face: by look-up, or from the marks of a leaf's eight corners.
+// The wet pattern of a face: by the tables, or from the marks of a leaf's eight corners.
 ghost use mathlib.Core.Path.{_≡_};
-ghost use mathlib.Core.Bool.{true};
 ghost use Prim.Native.Nat.{_≤_, _<_};
 ghost use lib.Dec.{eqb};
 ghost use lib.ListN.{getD};
 ghost use Rattle.base.specs.Lists.{bit};
-ghost use Rattle.rules.specs.Outputs.{accepted, surveyOf};
+ghost use Rattle.rules.specs.Steps.{faceCorner};
+ghost use Rattle.rules.specs.Outputs.{surveyOf};
 ghost use Rattle.faces.specs.Faces.{sideOf, faceOf, Faced, Marked, ownPattern, facePattern};
 use super::Facet;
 use super::corners;
+use super::facets;
 use super::sides;
 
-// The wet pattern of a facet, by look-up.
+// The wet mark of corner j of a facet.
+fn facet_mark(
+    cells: &[u8],
+    corners: &[u8],
+    clearance: f32,
+    wets: &[u8],
+    octants: &[u16],
+    facet: Facet,
+    j: usize,
+) -> usize
+    requires { ⌜ Marked (now cells) (now corners) clearance (now wets) (now octants) ⌝ }
+    requires { ⌜ Faced (now cells) facet ⌝ }
+    requires { ⌜ j < 4 ⌝ }
+    ensures { λ r. ⌜ (r ≡ bit (surveyOf (now (cells .entry)) (now (corners .entry)) clearance .isWet (faceCorner (sideOf facet) (faceOf facet) j)))
+        × (r ≤ 1) ⌝ }
+{
+    let k = facets::facet_corner(cells, corners, octants, facet, j);
+    corners::wide(wets[k])
+}
+
+// The wet pattern of a facet, by the tables.
 pub fn face_pattern(
     cells: &[u8],
     corners: &[u8],
     clearance: f32,
     wets: &[u8],
+    octants: &[u16],
     facet: Facet,
 ) -> usize
-    requires { ⌜ accepted (now cells) (now corners) clearance ≡ true ⌝ }
-    requires { ⌜ Marked (now corners) clearance (now wets) ⌝ }
+    requires { ⌜ Marked (now cells) (now corners) clearance (now wets) (now octants) ⌝ }
     requires { ⌜ Faced (now cells) facet ⌝ }
     ensures { λ r. ⌜ (r ≡ facePattern (surveyOf (now (cells .entry)) (now (corners .entry)) clearance) (sideOf facet) (faceOf facet)) × (r < 16) ⌝ }
 {
-    let side = sides::right(facet.axis, facet.upper);
-    let lower = sides::moved(facet.key, side, facet.level);
-    let over = sides::moved(facet.key, sides::up(facet.axis, facet.upper), facet.level);
-    let far = sides::moved(over, side, facet.level);
-    corners::corner_mark(corners, clearance, wets, facet.key)
-        + 2 * corners::corner_mark(corners, clearance, wets, lower)
-        + 4 * corners::corner_mark(corners, clearance, wets, far)
-        + 8 * corners::corner_mark(corners, clearance, wets, over)
+    facet_mark(cells, corners, clearance, wets, octants, facet, 0)
+        + 2 * facet_mark(cells, corners, clearance, wets, octants, facet, 1)
+        + 4 * facet_mark(cells, corners, clearance, wets, octants, facet, 2)
+        + 8 * facet_mark(cells, corners, clearance, wets, octants, facet, 3)
 }
 
 // 1 if mark i of eight is 1, else 0.

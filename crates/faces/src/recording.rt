@@ -32,7 +32,8 @@ fn face_point(
     requires { ⌜ (i < 4) × OddAt (now corners) clearance facet i ⌝ }
     ensures { λ r. ⌜ (r ≡ pointOf (surveyOf (now (cells .entry)) (now (corners .entry)) clearance) (faceEdge (sideOf facet) (faceOf facet) i)) × (r < 14616) ⌝ }
 {
-    let k = corners::corner_record(corners, facets::edge_key(facet, i));
+    let j = facets::edge_corner(i);
+    let k = facets::facet_corner(cells, corners, octants, facet, j);
     let axis = facets::edge_axis(facet, i);
     edges::point_of(
         cells,
@@ -103,7 +104,7 @@ fn face_step(
     trace::record_step(nexts, marks, blocks, from, to);
 }
 
-// Records the steps in a facet of a wet pattern, edge after edge.
+// Records the steps in a facet of a wet pattern, edge after edge: none where its corners are all dry or all wet.
 fn face_steps(
     cells: &[u8],
     corners: &[u8],
@@ -126,6 +127,9 @@ fn face_steps(
     ensures { λ _. ⌜ Recorded (faceSteps (surveyOf (now (cells .entry)) (now (corners .entry)) clearance) (sideOf facet) (faceOf facet))
         (trace (now (nexts .entry)) (now (marks .entry)) (now (blocks .entry))) (trace (now (nexts .exit)) (now (marks .exit)) (now (blocks .exit))) ⌝ }
 {
+    if pattern % 15 == 0 {
+        return;
+    }
     let mut i: usize = 0;
     while i < 4 {
         face_step(
@@ -148,7 +152,7 @@ fn face_steps(
     }
 }
 
-// Records the steps in the small faces of a facet: `n` is the record of the cell of the same size across, of which it is a side.
+// Records the steps in the small faces of a facet, a side of the cell of the same size across.
 fn small_faces(
     cells: &[u8],
     corners: &[u8],
@@ -162,17 +166,16 @@ fn small_faces(
     marks: &mut [u8],
     blocks: &mut [u8],
     facet: Facet,
-    n: usize,
 )
     requires { ⌜ Tables (now cells) (now corners) clearance (now wets) (now lowest) (now far) (now numbers) (now octants) ⌝ }
     requires { ⌜ Sized (trace (now nexts) (now marks) (now blocks)) ⌝ }
-    requires { ⌜ Across (now cells) facet n ⌝ }
+    requires { ⌜ Across (now cells) facet ⌝ }
     ensures { λ _. ⌜ Recorded (facetSteps (surveyOf (now (cells .entry)) (now (corners .entry)) clearance) facet)
         (trace (now (nexts .entry)) (now (marks .entry)) (now (blocks .entry))) (trace (now (nexts .exit)) (now (marks .exit)) (now (blocks .exit))) ⌝ }
 {
-    let first = records::cell_entry(cells, n) as usize;
+    let first = records::cell_entry(cells, facet.cell) as usize;
     if first == 0 {
-        let pattern = patterns::face_pattern(cells, corners, clearance, wets, facet);
+        let pattern = patterns::face_pattern(cells, corners, clearance, wets, octants, facet);
         face_steps(
             cells,
             corners,
@@ -192,7 +195,6 @@ fn small_faces(
     }
     let mut i: usize = 0;
     while i < 4 {
-        let child = first + facets::child_across(facet, i);
         small_faces(
             cells,
             corners,
@@ -205,14 +207,13 @@ fn small_faces(
             nexts,
             marks,
             blocks,
-            facets::quarter(facet, i),
-            child,
+            facets::quarter(facet, first, i),
         );
         i += 1;
     }
 }
 
-// Records the steps on side i of a leaf: in the small faces of the split cell across, or in its own side.
+// Records the steps on side i of the leaf of record `n`: in the small faces of the split cell across, or in its own side.
 pub fn side_steps(
     cells: &[u8],
     corners: &[u8],
@@ -225,6 +226,7 @@ pub fn side_steps(
     nexts: &mut [u16],
     marks: &mut [u8],
     blocks: &mut [u8],
+    n: usize,
     key: u64,
     level: u8,
     wet: [u8; 8],
@@ -232,21 +234,23 @@ pub fn side_steps(
 )
     requires { ⌜ Tables (now cells) (now corners) clearance (now wets) (now lowest) (now far) (now numbers) (now octants) ⌝ }
     requires { ⌜ Sized (trace (now nexts) (now marks) (now blocks)) ⌝ }
-    requires { ⌜ (i < 6) × LeafAt (now cells) key level × (wet ≡ cornerMarks (now corners) clearance key level) ⌝ }
+    requires { ⌜ (i < 6) × LeafAt (now cells) n key level × (wet ≡ cornerMarks (now corners) clearance key level) ⌝ }
     ensures { λ _. ⌜ Recorded (sideSteps (surveyOf (now (cells .entry)) (now (corners .entry)) clearance) (sideNumber i) (placeWith key) level)
         (trace (now (nexts .entry)) (now (marks .entry)) (now (blocks .entry))) (trace (now (nexts .exit)) (now (marks .exit)) (now (blocks .exit))) ⌝ }
 {
     let axis = i / 2;
     let upper = i % 2 == 0;
     let side = sides::side_key(axis, upper, key, level);
-    let facet = Facet {
-        axis: axis,
-        upper: upper,
-        key: side,
-        level: level,
-    };
-    let n = sides::split_across(cells, axis, upper, key, level);
-    if n < cells.len() / 4 {
+    let split = sides::split_across(cells, axis, upper, key, level);
+    if split < cells.len() / 4 {
+        let beyond = Facet {
+            axis: axis,
+            upper: upper,
+            key: side,
+            level: level,
+            cell: split,
+            low: sides::side_bit(axis, !upper),
+        };
         small_faces(
             cells,
             corners,
@@ -259,11 +263,18 @@ pub fn side_steps(
             nexts,
             marks,
             blocks,
-            facet,
-            n,
+            beyond,
         );
         return;
     }
+    let facet = Facet {
+        axis: axis,
+        upper: upper,
+        key: side,
+        level: level,
+        cell: n,
+        low: sides::side_bit(axis, upper),
+    };
     let pattern = patterns::own_pattern(wet, axis, upper);
     face_steps(
         cells,

@@ -7,7 +7,7 @@ ghost use Rattle.base.specs.Grid.{Axis, axisOf, along, move, back};
 ghost use Rattle.rules.specs.Survey.{cell};
 ghost use Rattle.rules.specs.Steps.{sideLow};
 ghost use Rattle.faces.specs.Descent.{placeWith, Grown};
-ghost use Rattle.faces.specs.Faces.{sideAt, octantBit, sideBit, FoundAcross, LeafAt};
+ghost use Rattle.faces.specs.Faces.{sideAt, octantBit, sideBit, FoundAcross};
 
 // How much the upper half of an axis adds to the number of a child, or of a corner, of a cell.
 pub fn octant_bit(axis: u32) -> usize
@@ -109,7 +109,8 @@ pub fn side_key(axis: u32, upper: bool, key: u64, level: u8) -> u64
 // The record of the cell of the same size across a side, if it is split; else the number of records.
 pub fn split_across(cells: &[u8], axis: u32, upper: bool, key: u64, level: u8) -> usize
     requires { ⌜ Grown (now cells) ⌝ }
-    requires { ⌜ (axis < 3) × LeafAt (now cells) key level ⌝ }
+    requires { ⌜ axis < 3 ⌝ }
+    requires { ⌜ (level ≤ 10) × ((a : Axis) → along a (placeWith key) + 2 ^ level ≤ 1024) ⌝ }
     ensures { λ r. ⌜ FoundAcross (now (cells .entry)) axis upper key level r ⌝ }
 {
     let count = cells.len() / 4;

@@ -1,51 +1,49 @@
 -- `faces::leaf_at` meets its contract: eight corners, in the order of octants.
-use denote.Ref.{now}
 use mathlib.Core.List.{[], _∷_}
 use native.Mathlib.Omega.{arith}
 use Rattle.rules.specs.Survey.{leafOf}
-use Rattle.faces.proofs.Leaves.{octant-ready}
 use Rattle.faces.proofs.leaf_at.Statement.{statement}
 use Rattle.faces.proofs.leaf_at.Tie as tie
 
 octant-corner-requires : tie.Need-octant-corner-requires
 octant-corner-requires c κs =
-    let s = c .before .before in
-    octant-ready (now (s .args .cells)) (now (s .args .corners)) (s .args .clearance) (s .pre .0) (s .args .key) (s .args .level) (s .pre .1) 0 (omega arith)
+    let s = c .before .before .before in
+    (s .pre .0, (s .pre .1 .0, (s .pre .1 .1, omega arith)))
 
 octant-corner-requires-2 : tie.Need-octant-corner-requires-2
 octant-corner-requires-2 c κs =
-    let s = c .before .before .before in
-    octant-ready (now (s .args .cells)) (now (s .args .corners)) (s .args .clearance) (s .pre .0) (s .args .key) (s .args .level) (s .pre .1) 1 (omega arith)
+    let s = c .before .before .before .before in
+    (s .pre .0, (s .pre .1 .0, (s .pre .1 .1, omega arith)))
 
 octant-corner-requires-3 : tie.Need-octant-corner-requires-3
 octant-corner-requires-3 c κs =
-    let s = c .before .before .before .before in
-    octant-ready (now (s .args .cells)) (now (s .args .corners)) (s .args .clearance) (s .pre .0) (s .args .key) (s .args .level) (s .pre .1) 2 (omega arith)
+    let s = c .before .before .before .before .before in
+    (s .pre .0, (s .pre .1 .0, (s .pre .1 .1, omega arith)))
 
 octant-corner-requires-4 : tie.Need-octant-corner-requires-4
 octant-corner-requires-4 c κs =
-    let s = c .before .before .before .before .before in
-    octant-ready (now (s .args .cells)) (now (s .args .corners)) (s .args .clearance) (s .pre .0) (s .args .key) (s .args .level) (s .pre .1) 3 (omega arith)
+    let s = c .before .before .before .before .before .before in
+    (s .pre .0, (s .pre .1 .0, (s .pre .1 .1, omega arith)))
 
 octant-corner-requires-5 : tie.Need-octant-corner-requires-5
 octant-corner-requires-5 c κs =
-    let s = c .before .before .before .before .before .before in
-    octant-ready (now (s .args .cells)) (now (s .args .corners)) (s .args .clearance) (s .pre .0) (s .args .key) (s .args .level) (s .pre .1) 4 (omega arith)
+    let s = c .before .before .before .before .before .before .before in
+    (s .pre .0, (s .pre .1 .0, (s .pre .1 .1, omega arith)))
 
 octant-corner-requires-6 : tie.Need-octant-corner-requires-6
 octant-corner-requires-6 c κs =
-    let s = c .before .before .before .before .before .before .before in
-    octant-ready (now (s .args .cells)) (now (s .args .corners)) (s .args .clearance) (s .pre .0) (s .args .key) (s .args .level) (s .pre .1) 5 (omega arith)
+    let s = c .before .before .before .before .before .before .before .before in
+    (s .pre .0, (s .pre .1 .0, (s .pre .1 .1, omega arith)))
 
 octant-corner-requires-7 : tie.Need-octant-corner-requires-7
 octant-corner-requires-7 c κs =
-    let s = c .before .before .before .before .before .before .before .before in
-    octant-ready (now (s .args .cells)) (now (s .args .corners)) (s .args .clearance) (s .pre .0) (s .args .key) (s .args .level) (s .pre .1) 6 (omega arith)
+    let s = c .before .before .before .before .before .before .before .before .before in
+    (s .pre .0, (s .pre .1 .0, (s .pre .1 .1, omega arith)))
 
 octant-corner-requires-8 : tie.Need-octant-corner-requires-8
 octant-corner-requires-8 c κs =
-    let s = c .before .before .before .before .before .before .before .before .before in
-    octant-ready (now (s .args .cells)) (now (s .args .corners)) (s .args .clearance) (s .pre .0) (s .args .key) (s .args .level) (s .pre .1) 7 (omega arith)
+    let s = c .before .before .before .before .before .before .before .before .before .before in
+    (s .pre .0, (s .pre .1 .0, (s .pre .1 .1, omega arith)))
 
 returns : tie.Need-returns
 unfolding leafOf

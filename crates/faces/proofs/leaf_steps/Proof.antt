@@ -14,7 +14,6 @@ use Rattle.trace.proofs.Laws.{recorded-none}
 use Rattle.faces.specs.Descent.{placeWith}
 use Rattle.faces.specs.Faces.{sideNumber, sideSteps}
 use Rattle.faces.proofs.Firsts.{firsts, recorded-next, recorded-all}
-use Rattle.faces.proofs.Looks.{grown}
 use Rattle.faces.proofs.Leaves.{place-is, leaf-is, leaf-corners, marks-are, sides-recorded}
 use borrow.Author.Needs.{needs}
 use Rattle.faces.proofs.leaf_steps.Statement.{statement}
@@ -52,14 +51,12 @@ shared-slice-read-level c = search needs
 leaf-at-requires : tie.Need-leaf-at-requires Inv-loop μ-loop
 leaf-at-requires c κs =
     let s = c .before .before .before .before .before .before .before .before .before .before .before .before .before .before in
-    let a = s .args in
-    let g = grown (now (a .cells)) (now (a .corners)) (a .clearance) (s .pre .0 .passed) in
-    (s .pre .0 .passed, leaf-is (now (a .cells)) (now (a .keys)) (now (a .levels)) g (s .pre .1 .1 .0) (a .n) (s .pre .1 .1 .1 .0))
+    (s .pre .0 .passed, (s .pre .0 .octant, s .pre .1 .1 .1 .0))
 
 leaf-marks-requires : tie.Need-leaf-marks-requires Inv-loop μ-loop
 leaf-marks-requires c κs =
     let s = c .before .before .before .before .before .before .before .before .before .before .before .before .before .before .before in
-    leaf-corners (now (s .args .corners)) _ _ (c .leaf-at .result) (c .leaf-at .ensures)
+    leaf-corners (now (s .args .corners)) (cellAt (now (s .args .cells)) (s .args .n)) (c .leaf-at .result) (c .leaf-at .ensures)
 
 loop-holds : tie.Need-loop-holds Inv-loop μ-loop
 loop-holds c =
@@ -70,16 +67,16 @@ side-steps-requires : tie.Need-side-steps-requires Inv-loop μ-loop
 side-steps-requires c κs =
     let at = c .before .before .before .before in
     let s = start at in
-    let g = grown (now (s .args .cells)) (now (s .args .corners)) (s .args .clearance) (s .pre .0 .passed) in
+    let leaf = leaf-is (now (s .args .cells)) (now (s .args .keys)) (now (s .args .levels)) (s .pre .1 .1 .0) (s .args .n) (s .pre .1 .1 .1 .0) in
     let m = c .before .before .before .before .before in (
       s .pre .0,
       (
         at .loop .inv .1 .sized,
         (
           c .before .before .before .loop-test .taken,
-          leaf-is (now (s .args .cells)) (now (s .args .keys)) (now (s .args .levels)) g (s .pre .1 .1 .0) (s .args .n) (s .pre .1 .1 .1 .0),
-          marks-are (now (s .args .corners)) (s .args .clearance) (key s) (level s) (m .before .leaf-at .result) _ (m .before .leaf-at .ensures)
-              (m .leaf-marks .ensures),
+          leaf,
+          marks-are (now (s .args .cells)) (now (s .args .corners)) (s .args .clearance) (s .args .n) (key s) (level s) leaf
+              (m .before .leaf-at .result) _ (m .before .leaf-at .ensures) (m .leaf-marks .ensures),
         ),
       ),
     )
@@ -112,10 +109,9 @@ returns c =
     let at = c .before in
     let s = start at in
     let a = s .args in
-    let g = grown (now (a .cells)) (now (a .corners)) (a .clearance) (s .pre .0 .passed) in
     let all : at .loop .i ≡ 6 = omega (arith, at .loop .inv .0, c .loop-test .left) in
     sides-recorded (surveyOf (now (a .cells)) (now (a .corners)) (a .clearance)) (cellAt (now (a .cells)) (a .n)) (placeWith (key s)) (level s) _ _
-    (place-is (now (a .cells)) (now (a .keys)) (now (a .levels)) g (s .pre .1 .1 .0) (a .n) (s .pre .1 .1 .1 .0))
+    (place-is (now (a .cells)) (now (a .keys)) (now (a .levels)) (s .pre .1 .1 .0) (a .n) (s .pre .1 .1 .1 .0))
     (s .pre .1 .1 .0 .entered (a .n) (s .pre .1 .1 .1 .0) .level)
     (recorded-all (steps s) (at .loop .i) 6 _ _ all (at .loop .inv .1))
 

@@ -23,21 +23,35 @@ octant-key-requires c κs =
           (c .size-of .ensures) refl,
     )
 
-add-t6 : tie.Need-add-t6
-add-t6 c =
+add-t7 : tie.Need-add-t7
+add-t7 c =
     let s = c .before .before .before .before .before in
     record {
       fits = quarter-fits (s .args .facet) (s .pre .0) (s .args .i) _ _ _ (c .before .before .before .quarter-bit .ensures .0)
           (c .before .before .size-of .ensures) (c .before .octant-key .ensures);
     }
 
+add-t8 : tie.Need-add-t8
+add-t8 c = search needs
+
+add-t9 : tie.Need-add-t9
+add-t9 c = search needs
+
 returns : tie.Need-returns
 returns c =
-    let s = c .before .before .before .before .before in
-    quarter-is (s .args .facet) (s .pre .0) (s .args .i) _ _ _ (c .before .before .before .quarter-bit .ensures .0) (c .before .before .size-of .ensures)
-    (c .before .octant-key .ensures)
+    let s = c .before .before .before .before .before .before in
+    quarter-is (s .args .facet) (s .pre .0) (s .args .i) _ _ _ (c .before .before .before .before .quarter-bit .ensures .0)
+    (c .before .before .before .size-of .ensures) (c .before .before .octant-key .ensures) (s .args .first)
 
 pub quarter-spec : {M : Type 1} → statement M
 quarter-spec =
     tie.close
-    (tie.spec sub-half quarter-bit-requires size-of-requires octant-key-requires add-t6 returns)
+    (tie.spec
+    sub-half
+    quarter-bit-requires
+    size-of-requires
+    octant-key-requires
+    add-t7
+    add-t8
+    add-t9
+    returns)

@@ -11,8 +11,8 @@ use Rattle.trace.specs.Trace.{trace, Recorded}
 use Rattle.trace.proofs.Laws.{recorded-none}
 use Rattle.faces.specs.Faces.{quarterOf, facetSteps}
 use Rattle.faces.proofs.Firsts.{firsts, recorded-next, recorded-all}
-use Rattle.faces.proofs.Looks.{cells-small, marked}
-use Rattle.faces.proofs.Across.{faced, room, whole-recorded, above-zero, children-inside, quarter-level, quarter-across, quarter-recorded}
+use Rattle.faces.proofs.Looks.{cells-small}
+use Rattle.faces.proofs.Across.{faced, room, low-few, whole-recorded, above-zero, children-inside, quarter-level, quarter-across, quarter-recorded}
 use Rattle.faces.proofs.Across.{quarters-recorded}
 use borrow.Author.Needs.{needs}
 use borrow.Fn.Kinds.{In}
@@ -20,7 +20,6 @@ use borrow.Fn.PlainCycle.{Measures, is, falls, and}
 use Rattle.records.proofs.cell_entry.Reads as cell-entry
 use Rattle.faces.proofs.patterns.face_pattern.Reads as face-pattern
 use Rattle.faces.proofs.recording.face_steps.Reads as face-steps
-use Rattle.faces.proofs.facets.child_across.Reads as child-across
 use Rattle.faces.proofs.facets.quarter.Reads as quarter
 use Rattle.faces.proofs.recording.small_faces.Reads as small-faces
 use Rattle.faces.proofs.recording.small_faces.Kinds as kinds
@@ -43,8 +42,6 @@ claims t = (
   face-pattern.Learnt,
   face-steps.Asked,
   face-steps.Learnt,
-  child-across.Asked,
-  child-across.Learnt,
   quarter.Asked,
   quarter.Learnt,
   and 10 kinds.ps (falls 10 kinds.ps _<_ μ-small-faces t) small-faces.Pre,
@@ -52,12 +49,12 @@ claims t = (
 )
 
 abbrev Inv-loop : lts.InvT-loop
-Inv-loop cells corners clearance wets lowest far numbers octants nexts₀ marks₀ blocks₀ facet n first i₀ nexts marks blocks i =
-    (i ≤ 4) × Recorded (firsts (λ j. facetSteps (surveyOf cells corners clearance) (quarterOf facet j)) i) (trace nexts₀ marks₀ blocks₀)
+Inv-loop cells corners clearance wets lowest far numbers octants nexts₀ marks₀ blocks₀ facet first i₀ nexts marks blocks i =
+    (i ≤ 4) × Recorded (firsts (λ j. facetSteps (surveyOf cells corners clearance) (quarterOf facet first j)) i) (trace nexts₀ marks₀ blocks₀)
     (trace nexts marks blocks)
 
 abbrev μ-loop : lts.MeasureT-loop
-μ-loop cells corners clearance wets lowest far numbers octants nexts₀ marks₀ blocks₀ facet n first i₀ nexts marks blocks i = 4 - i
+μ-loop cells corners clearance wets lowest far numbers octants nexts₀ marks₀ blocks₀ facet first i₀ nexts marks blocks i = 4 - i
 
 module _ (t : ℕ) where
   abbrev Start : Type 0
@@ -72,8 +69,10 @@ module _ (t : ℕ) where
   abbrev entry : lts.After-face-steps (claims t) (at t) small-faces.Post Inv-loop μ-loop → Start
   entry c = c .before .before .before .before .before .before .before .before .before .before .before .before .before .before .before .before .before
 
-  abbrev steps : Start → ℕ → List Step
-  steps s j = facetSteps (surveyOf (now (s .args .cells)) (now (s .args .corners)) (s .args .clearance)) (quarterOf (s .args .facet) j)
+  abbrev steps : lts.After-cell-entry (claims t) (at t) small-faces.Post Inv-loop μ-loop → ℕ → List Step
+  steps c j =
+      let a = c .before .before .before .before .before .before .before .before .before .before .before .args in
+      facetSteps (surveyOf (now (a .cells)) (now (a .corners)) (a .clearance)) (quarterOf (a .facet) (c .cell-entry .result) j)
 
   cell-entry-requires : lts.Need-cell-entry-requires (claims t) (at t) small-faces.Post Inv-loop μ-loop
   cell-entry-requires c κs = search needs
@@ -86,12 +85,8 @@ module _ (t : ℕ) where
       let s = c .before .before .before .before .before .before .before .before .before .before .before .before in
       let a = s .args in
       let ok = s .pre .1 .0 .passed in (
-        ok,
-        (
-          marked (now (a .cells)) (now (a .corners)) (a .clearance) ok (now (a .wets)) (s .pre .1 .0 .wet),
-          faced (now (a .cells)) (now (a .corners))
-              (a .clearance) ok (a .facet) (a .n) (s .pre .1 .1 .1),
-        ),
+        record { passed = ok; wet = s .pre .1 .0 .wet; octant = s .pre .1 .0 .octant },
+        faced (now (a .cells)) (now (a .corners)) (a .clearance) ok (a .facet) (s .pre .1 .1 .1),
       )
 
   face-steps-requires : lts.Need-face-steps-requires (claims t) (at t) small-faces.Post Inv-loop μ-loop
@@ -103,7 +98,7 @@ module _ (t : ℕ) where
         (
           s .pre .1 .1 .0,
           (
-            faced (now (a .cells)) (now (a .corners)) (a .clearance) (s .pre .1 .0 .passed) (a .facet) (a .n) (s .pre .1 .1 .1),
+            faced (now (a .cells)) (now (a .corners)) (a .clearance) (s .pre .1 .0 .passed) (a .facet) (s .pre .1 .1 .1),
             (p .1, p .0),
           ),
         ),
@@ -124,65 +119,50 @@ module _ (t : ℕ) where
       let s = entry f in
       let a = s .args in
       let e = c .before .before .before .before .before .before .before .before .before .before .before .before .cell-entry in
-      whole-recorded (now (a .cells)) (now (a .corners)) (a .clearance) (s .pre .1 .0 .passed) (a .facet) (a .n) (s .pre .1 .1 .1) (e .result) _ _
+      whole-recorded (now (a .cells)) (now (a .corners)) (a .clearance) (s .pre .1 .0 .passed) (a .facet) (s .pre .1 .1 .1) (e .result) _ _
       (e .ensures) (c .before .before .before .before .before .before .before .before .before .before .before .if1 .taken) (f .face-steps .ensures)
 
   loop-holds : lts.Need-loop-holds (claims t) (at t) small-faces.Post Inv-loop μ-loop
   loop-holds c = (omega arith, recorded-none _ (start c .pre .1 .1 .0))
 
-  child-across-requires : lts.Need-child-across-requires (claims t) (at t) small-faces.Post Inv-loop μ-loop
-  child-across-requires c κs = (start (c .before .before) .pre .1 .1 .1 .axis-less, c .loop-test .taken)
-
-  add-child : lts.Need-add-child (claims t) (at t) small-faces.Post Inv-loop μ-loop
-  add-child c =
-      let d = c .before .before .before in
-      let s = start d in
-      let a = s .args in
-      let e = d .before .cell-entry in
-      record {
-        fits = omega (
-          arith,
-          c .child-across .ensures .1,
-          cells-small (now (a .cells)) (now (a .corners)) (a .clearance) (s .pre .1 .0 .passed),
-          children-inside (now (a .cells)) (now (a .corners)) (a .clearance) (s .pre .1 .0 .passed) (a .facet) (a .n) (s .pre .1 .1 .1) (e .result)
-              (e .ensures) (d .if1 .left),
-        );
-      }
-
   quarter-requires : lts.Need-quarter-requires (claims t) (at t) small-faces.Post Inv-loop μ-loop
   quarter-requires c κs =
-      let d = c .before .before .before .before .before .before in
+      let d = c .before .before .before .before .before in
       let s = start d in
       let a = s .args in
+      let x = s .pre .1 .1 .1 in
       let e = d .before .cell-entry in
-      let ok = s .pre .1 .0 .passed in (
-        room (now (a .cells)) (now (a .corners)) (a .clearance) ok (a .facet) (a .n) (s .pre .1 .1 .1),
+      let ok = s .pre .1 .0 .passed in
+      let small = cells-small (now (a .cells)) (now (a .corners)) (a .clearance) ok in
+      let inside = children-inside (now (a .cells)) (now (a .corners)) (a .clearance) ok (a .facet) x (e .result) (e .ensures) (d .if1 .left) in (
+        room (now (a .cells)) (now (a .corners)) (a .clearance) ok (a .facet) x,
         (
-          above-zero (now (a .cells)) (now (a .corners)) (a .clearance) ok (a .facet) (a .n) (s .pre .1 .1 .1) (e .result) (e .ensures)
-              (d .if1 .left),
-          c .before .before .before .before .loop-test .taken,
+          (
+            above-zero (now (a .cells)) (now (a .corners)) (a .clearance) ok (a .facet) x (e .result) (e .ensures) (d .if1 .left),
+            c .before .before .before .loop-test .taken,
+          ),
+          (omega (arith, small, inside), low-few (now (a .cells)) (now (a .corners)) (a .clearance) ok (a .facet) x),
         ),
       )
 
   small-faces-requires : lts.Need-small-faces-requires (claims t) (at t) small-faces.Post Inv-loop μ-loop
   small-faces-requires c κs =
-      let l = c .before .before .before .before .before .before in
-      let d = c .before .before .before .before .before .before .before in
+      let l = c .before .before .before .before .before in
+      let d = l .before in
       let s = start d in
       let a = s .args in
+      let x = s .pre .1 .1 .1 in
       let e = d .before .cell-entry in
       let ok = s .pre .1 .0 .passed in
       let q = c .quarter in
-      let high = above-zero (now (a .cells)) (now (a .corners)) (a .clearance) ok (a .facet) (a .n) (s .pre .1 .1 .1) (e .result) (e .ensures)
-      (d .if1 .left) in (
-        omega (arith, high, s .pre .0, quarter-level (a .facet) (l .loop .i) (q .result) (q .ensures)),
+      let high = above-zero (now (a .cells)) (now (a .corners)) (a .clearance) ok (a .facet) x (e .result) (e .ensures) (d .if1 .left) in (
+        omega (arith, high, s .pre .0, quarter-level (a .facet) (e .result) (l .loop .i) (q .result) (q .ensures)),
         (
           s .pre .1 .0,
           (
             l .loop .inv .1 .sized,
-            quarter-across (now (a .cells)) (now (a .corners)) (a .clearance) ok (a .facet) (a .n) (s .pre .1 .1 .1) (e .result) (e .ensures) (d .if1 .left)
-                (l .loop .i) (c .before .before .before .before .child-across .result) (q .result) (q .ensures)
-                (c .before .before .before .before .child-across .ensures .0),
+            quarter-across (now (a .cells)) (now (a .corners)) (a .clearance) ok (a .facet) x (e .result) (e .ensures) (d .if1 .left)
+                (l .loop .i) (q .result) (q .ensures),
           ),
         ),
       )
@@ -195,12 +175,12 @@ module _ (t : ℕ) where
 
   loop-again : lts.Need-loop-again (claims t) (at t) small-faces.Post Inv-loop μ-loop
   loop-again c =
-      let l = c .before .before .before .before .before .before .before .before .before .before .before .before .before in
-      let s = start (c .before .before .before .before .before .before .before .before .before .before .before .before .before .before) in
+      let l = c .before .before .before .before .before .before .before .before .before .before .before .before in
+      let d = l .before in
       let q = c .before .before .before .before .before .before .before .quarter in (
-        omega (arith, c .before .before .before .before .before .before .before .before .before .before .before .before .loop-test .taken),
-        recorded-next (steps s) (l .loop .i) _ _ _ (l .loop .inv .1)
-            (quarter-recorded _ (s .args .facet) (l .loop .i) (q .result) _ _ (q .ensures)
+        omega (arith, c .before .before .before .before .before .before .before .before .before .before .before .loop-test .taken),
+        recorded-next (steps (d .before)) (l .loop .i) _ _ _ (l .loop .inv .1)
+            (quarter-recorded _ (start d .args .facet) (d .before .cell-entry .result) (l .loop .i) (q .result) _ _ (q .ensures)
             (c .before .before .before .before .before .before .small-faces .ensures)),
       )
 
@@ -221,9 +201,9 @@ module _ (t : ℕ) where
       let a = s .args in
       let e = d .before .cell-entry in
       let all : l .i ≡ 4 = omega (arith, l .inv .0, c .loop-test .left) in
-      quarters-recorded (now (a .cells)) (now (a .corners)) (a .clearance) (s .pre .1 .0 .passed) (a .facet) (a .n) (s .pre .1 .1 .1) (e .result)
+      quarters-recorded (now (a .cells)) (now (a .corners)) (a .clearance) (s .pre .1 .0 .passed) (a .facet) (s .pre .1 .1 .1) (e .result)
       (e .ensures) (d .if1 .left) _ _
-      (recorded-all (steps s) (l .i) 4 _ _ all (l .inv .1))
+      (recorded-all (steps (d .before)) (l .i) 4 _ _ all (l .inv .1))
 
 pub +small-faces-spec : {M : Type 1} → statement M
 +small-faces-spec = close μ-small-faces λ t. lts.spec (claims t) (at t) small-faces.Post Inv-loop μ-loop
@@ -236,8 +216,6 @@ pub +small-faces-spec : {M : Type 1} → statement M
     (same-length-3 t)
     (returns t)
     (loop-holds t)
-    (child-across-requires t)
-    (add-child t)
     (quarter-requires t)
     (small-faces-requires t)
     (add-i t)

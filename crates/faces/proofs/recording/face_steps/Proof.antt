@@ -1,5 +1,5 @@
--- `faces::recording::face_steps` meets its contract. The loop's invariant: the rows of the edges before the one at hand are recorded. The measure is how many
--- edges are to come.
+-- `faces::recording::face_steps` meets its contract: with all corners dry or all wet there is no step. The loop's invariant: the rows of the
+-- edges before the one at hand are recorded. The measure is how many edges are to come.
 use denote.Ref.{now}
 use mathlib.Core.Path.{_≡_, sym, _∙_}
 use native.Mathlib.Omega.{arith}
@@ -11,7 +11,7 @@ use Rattle.trace.specs.Trace.{trace, Recorded}
 use Rattle.trace.proofs.Laws.{recorded-none}
 use Rattle.faces.specs.Faces.{sideOf, faceOf, rowSteps}
 use Rattle.faces.proofs.Firsts.{firsts, recorded-next, recorded-all}
-use Rattle.faces.proofs.Steps.{rows-recorded}
+use Rattle.faces.proofs.Steps.{rows-recorded, rows-none}
 use borrow.Author.Needs.{needs}
 use Rattle.faces.proofs.recording.face_steps.Statement.{statement}
 use Rattle.faces.proofs.recording.face_steps.Tie as tie
@@ -25,15 +25,21 @@ abbrev μ-loop : tie.MeasureT-loop
 μ-loop cells corners clearance wets lowest far numbers octants nexts₀ marks₀ blocks₀ facet pattern i₀ nexts marks blocks i = 4 - i
 
 abbrev start : tie.At-loop Inv-loop μ-loop → tie.Start Inv-loop μ-loop
-start c = c .before .before .before .before .before .before .before .before .before .before .before
+start c = c .before .before .before .before .before .before .before .before .before .before .before .before
 
 abbrev row : tie.Start Inv-loop μ-loop → ℕ → List Step
 row s =
     rowSteps (surveyOf (now (s .args .cells)) (now (s .args .corners)) (s .args .clearance)) (sideOf (s .args .facet)) (faceOf (s .args .facet))
     (s .args .pattern)
 
+returns : tie.Need-returns Inv-loop μ-loop
+returns c =
+    let s = c .before .before .before .before .before .before .before .before .before .before .before in
+    rows-none (now (s .args .cells)) (now (s .args .corners)) (s .args .clearance) (s .pre .0 .passed) (s .args .facet) (s .pre .1 .1 .0)
+    (s .args .pattern) _ (s .pre .1 .1 .1 .0) (c .if1 .taken) (s .pre .1 .1 .1 .1) (s .pre .1 .0)
+
 loop-holds : tie.Need-loop-holds Inv-loop μ-loop
-loop-holds c = (omega arith, recorded-none _ (c .before .before .before .before .before .before .before .before .before .before .pre .1 .0))
+loop-holds c = (omega arith, recorded-none _ (c .before .before .before .before .before .before .before .before .before .before .before .pre .1 .0))
 
 face-step-requires : tie.Need-face-step-requires Inv-loop μ-loop
 face-step-requires c κs =
@@ -64,8 +70,8 @@ same-length-2 c = let at = c .before in at .loop .inv .1 .sized .same ∙ sym (s
 same-length-3 : tie.Need-same-length-3 Inv-loop μ-loop
 same-length-3 c = let at = c .before in at .loop .inv .1 .sized .groups ∙ sym (start at .pre .1 .0 .groups)
 
-returns : tie.Need-returns Inv-loop μ-loop
-returns c =
+returns-2 : tie.Need-returns-2 Inv-loop μ-loop
+returns-2 c =
     let at = c .before in
     let s = start at in
     let all : at .loop .i ≡ 4 = omega (arith, at .loop .inv .0, c .loop-test .left) in
@@ -79,6 +85,7 @@ face-steps-spec =
     (tie.spec
     Inv-loop
     μ-loop
+    returns
     loop-holds
     face-step-requires
     add-i
@@ -87,4 +94,4 @@ face-steps-spec =
     same-length
     same-length-2
     same-length-3
-    returns)
+    returns-2)

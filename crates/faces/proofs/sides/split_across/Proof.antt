@@ -1,7 +1,6 @@
 -- `faces::sides::split_across` meets its contract: below the box, no cell, a leaf, or a split cell.
 use denote.Ref.{now}
 use mathlib.Core.Path.{_∙_, refl, sym}
-use Rattle.faces.proofs.Leaves.{leaf-room}
 use Rattle.faces.proofs.Own.{none-below, none-across, leaf-across, cell-across}
 use borrow.Author.Needs.{needs}
 use Rattle.faces.proofs.sides.split_across.Statement.{statement}
@@ -10,7 +9,7 @@ use Rattle.faces.proofs.sides.split_across.Tie as tie
 is-below-requires : tie.Need-is-below-requires
 is-below-requires c κs =
     let s = c .before in
-    leaf-room (now (s .args .cells)) (s .pre .0) (s .args .key) (s .args .level) (s .pre .1 .1) .0
+    s .pre .1 .1 .0
 
 returns : tie.Need-returns
 returns c =
@@ -21,12 +20,12 @@ returns c =
 across-key-requires : tie.Need-across-key-requires
 across-key-requires c κs =
     let s = c .before .before .before in
-    (leaf-room (now (s .args .cells)) (s .pre .0) (s .args .key) (s .args .level) (s .pre .1 .1), sym (c .before .is-below .ensures) ∙ c .if1 .left)
+    (s .pre .1 .1, sym (c .before .is-below .ensures) ∙ c .if1 .left)
 
 record-of-requires : tie.Need-record-of-requires
 record-of-requires c κs =
     let s = c .before .before .before .before in
-    (s .pre .0, leaf-room (now (s .args .cells)) (s .pre .0) (s .args .key) (s .args .level) (s .pre .1 .1) .0)
+    (s .pre .0, s .pre .1 .1 .0)
 
 returns-2 : tie.Need-returns-2
 returns-2 c =
