@@ -1,4 +1,4 @@
--- Keys in order: the order by one key is the order by z, then y, then x; and what a strict rise gives a search by halving.
+-- Keys in order: the order by one key is the order by z, then y, then x; and what a strict rise gives a search.
 use Prim.Native.Nat.{ℕ, _+_, _*_, _/_, _≤_, _<_}
 use mathlib.Core.Path.{_≡_, sym, ap, _∙_}
 use mathlib.Core.List.{List}
