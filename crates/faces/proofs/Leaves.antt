@@ -1,6 +1,6 @@
 -- A leaf's own sides: keys of its corners and of what lies across, and the steps on a side, own or in small faces.
 use Prim.Native.Nat.{ℕ, _+_, _-_, _*_, _/_, _^_, _≤_, _<_}
-use mathlib.Core.Path.{_≡_, sym, ap, _∙_, subst}
+use mathlib.Core.Path.{_≡_, refl, sym, ap, _∙_, subst}
 use mathlib.Core.Bool.{Bool, true, false, not, _&&_, cond}
 use mathlib.Core.List.{List, [], _∷_, map, append-assoc, append-nil}
 use native.Mathlib.Omega.{arith}
@@ -25,13 +25,14 @@ use Rattle.octants.specs.Octants.{octantOf, Octant}
 use Rattle.edges.specs.Noting.{keyUnit}
 use Rattle.trace.specs.Trace.{Trace, Recorded}
 use Rattle.faces.specs.Descent.{placeWith, Grown}
-use Rattle.faces.specs.Faces.{sideAt, facet, sideNumber, sideBit, octantBit, LeafAt, Faced, FoundAcross, ownPattern, cornerMarks, facetSteps}
+use Rattle.faces.specs.Faces.{sideAt, sideOf, faceOf, sideNumber, sideBit, octantBit, LeafAt, Faced, SideFacet, FoundAcross, ownPattern, facePattern, cornerMarks, facetSteps}
 use Rattle.faces.specs.Faces.{sideSteps, smallSteps}
+use Rattle.faces.specs.declared.Facet.{Facet}
 use Rattle.faces.proofs.Keys.{octant-unit, place-of-key}
 use Rattle.faces.proofs.Firsts.{firsts}
 use Rattle.faces.proofs.Descent.{tree, cell-is}
 use Rattle.faces.proofs.Across.{whole-steps, eight}
-use Rattle.faces.proofs.Own.{lower-room, key-covers, place-back, low-cond}
+use Rattle.faces.proofs.Own.{lower-room, key-covers, place-back, low-cond, own-is}
 
 pub leaf-room : (tc : List ℕ) → Grown tc → (n key level : ℕ) → LeafAt tc n key level
     → (level ≤ 10) × ((a : Axis) → along a (placeWith key) + 2 ^ level ≤ 1024)
@@ -70,34 +71,46 @@ module _ (n : ℕ) (u : Bool) (key level o s r : ℕ) (e : u ≡ false) (h : (no
 pub side-less : (i : ℕ) → i < 6 → i / 2 < 3
 side-less i h = omega arith
 
-module _ (tc tk : List ℕ) (clearance : Float) (axis : ℕ) (upper : Bool) (key level side n low : ℕ)
-    (at : placeWith side ≡ sideLow (sideAt axis upper) (cell (placeWith key) level false)) where
-  -- the side is a side of the leaf
-  pub own-faced : axis < 3 → LeafAt tc n key level → low ≡ sideBit axis upper → Faced tc (facet axis upper side level n low)
-  own-faced h l e = record {
+module _ (tc tk : List ℕ) (clearance : Float) (axis : ℕ) (upper : Bool) (key level n : ℕ) (far : Bool) (f : Facet)
+    (x : SideFacet axis upper key level n far f) where
+  -- the small faces of the cell across
+  pub split-recorded : (t u : Trace) → Recorded (facetSteps (surveyOf tc tk clearance) f) t u
+      → Recorded (sideSteps (surveyOf tc tk clearance) (sideAt axis upper) (placeWith key) level) t u
+  split-recorded t u r =
+      let s = surveyOf tc tk clearance in
+      subst (λ p. Recorded (smallSteps s (sideAt axis upper) p level) t u) (x .placed) (subst (λ (g : Facet). Recorded (facetSteps s g) t u) (x .made) r)
+
+  -- the own side
+  pub own-recorded : (m : ℕ) (t u : Trace) → FoundAcross tc axis upper key level m → length tc / 4 ≤ m
+      → Recorded (faceSteps (surveyOf tc tk clearance) (sideOf f) (faceOf f)) t u
+      → Recorded (sideSteps (surveyOf tc tk clearance) (sideAt axis upper) (placeWith key) level) t u
+  unfolding surveyOf
+  own-recorded m t u a h r =
+      let s = surveyOf tc tk clearance in
+      let sd = sideAt axis upper in
+      let p = sideLow sd (cell (placeWith key) level false) in
+      subst (λ ss. Recorded ss t u) (ap (λ (g : Facet). faceSteps s (sideOf g) (faceOf g)) (x .made) ∙ ap (λ q. faceSteps s sd (face q level)) (x .placed)
+      ∙ whole-steps s sd p level (a .whole h)) r
+
+module _ (tc tk : List ℕ) (clearance : Float) (axis : ℕ) (upper : Bool) (key level n : ℕ) (f : Facet)
+    (x : SideFacet axis upper key level n upper f) where
+  -- a leaf's own side is a side of it
+  pub own-faced : axis < 3 → LeafAt tc n key level → Faced tc f
+  own-faced h l = subst (Faced tc) (sym (x .made)) (record {
     axis-less = h;
     inside = l .inside;
     level-is = l .level-is;
     far = upper;
-    bit-is = e;
-    place-is = at ∙ low-cond axis upper level (placeWith key) ∙ ap (λ p. cond upper (move (axisOf axis) (2 ^ level) p) p) (sym (l .low-is));
-  }
+    bit-is = refl;
+    place-is = x .placed ∙ low-cond axis upper level (placeWith key) ∙ ap (λ p. cond upper (move (axisOf axis) (2 ^ level) p) p) (sym (l .low-is));
+  })
 
-  -- the small faces of the cell across
-  pub split-recorded : (t u : Trace) → Recorded (facetSteps (surveyOf tc tk clearance) (facet axis upper side level n low)) t u
-      → Recorded (sideSteps (surveyOf tc tk clearance) (sideAt axis upper) (placeWith key) level) t u
-  split-recorded t u r = subst (λ p. Recorded (smallSteps (surveyOf tc tk clearance) (sideAt axis upper) p level) t u) at r
-
-  -- the own side
-  pub own-recorded : (m : ℕ) (t u : Trace) → FoundAcross tc axis upper key level m → length tc / 4 ≤ m
-      → Recorded (faceSteps (surveyOf tc tk clearance) (sideAt axis upper) (face (placeWith side) level)) t u
-      → Recorded (sideSteps (surveyOf tc tk clearance) (sideAt axis upper) (placeWith key) level) t u
-  unfolding surveyOf
-  own-recorded m t u f h r =
-      let s = surveyOf tc tk clearance in
-      let sd = sideAt axis upper in
-      let p = sideLow sd (cell (placeWith key) level false) in
-      subst (λ ss. Recorded ss t u) (ap (λ q. faceSteps s sd (face q level)) at ∙ whole-steps s sd p level (f .whole h)) r
+  -- and the pattern from the marks of its corners is the side's
+  pub own-patterned : (wet : List ℕ) → wet ≡ cornerMarks tk clearance key level
+      → ownPattern wet axis upper ≡ facePattern (surveyOf tc tk clearance) (sideOf f) (faceOf f)
+  own-patterned wet e =
+      own-is tk clearance tc axis upper key level wet (x .side) e (x .placed)
+      ∙ ap (λ (g : Facet). facePattern (surveyOf tc tk clearance) (sideOf g) (faceOf g)) (sym (x .made))
 
 -- ---- the own pattern
 

@@ -23,7 +23,7 @@ use Rattle.cells.specs.Laid.{cellAt}
 use Rattle.records.specs.Keys.{keyOf}
 use Rattle.edges.specs.Noting.{keyUnit}
 use Rattle.faces.specs.Descent.{placeWith, recordOf, Grown}
-use Rattle.faces.specs.Faces.{sideAt, octantBit, FoundAcross, cornerMarks, ownPattern, facePattern}
+use Rattle.faces.specs.Faces.{sideAt, octantBit, Across, FoundAcross, cornerMarks, ownPattern, facePattern}
 use Rattle.faces.proofs.Keys.{place-of-key}
 use Rattle.faces.proofs.Descent.{split-is, record-found, record-none}
 use Rattle.faces.proofs.Across.{across-split, quarters, eight}
@@ -156,13 +156,13 @@ module _ (tc : List ℕ) (g : Grown tc) (n : ℕ) (u : Bool) (key level : ℕ) (
     cell-across h =
         let (a, p) = there h in
         record {
-          split = λ l side low e b. record {
+          split = λ l f x. subst (Across tc) (sym (x .made)) (record {
             axis-less = few;
             inside = h;
             level-is = a;
-            bit-is = b;
-            low-is = e ∙ side-is n u level (placeWith key) (placeWith k) place room ∙ ap (λ q. cond u q (move (axisOf n) (2 ^ level) q)) (sym p);
-          };
+            bit-is = refl;
+            low-is = x .placed ∙ side-is n u level (placeWith key) (placeWith k) place room ∙ ap (λ q. cond u q (move (axisOf n) (2 ^ level) q)) (sym p);
+          });
           whole = λ l. absurd (omega arith);
         }
 

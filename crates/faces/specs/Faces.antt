@@ -68,11 +68,16 @@ pub record Across (tc : List ℕ) (f : Facet) : Type 0 where
   pub bit-is : f .low ≡ sideBit (f .axis) (not (f .upper))
   pub low-is : placeWith (f .key) ≡ cond (f .upper) (cellAt tc (f .cell) .low) (move (axisOf (f .axis)) (2 ^ f .level) (cellAt tc (f .cell) .low))
 
+-- f is a side of the cell of a level at the place with a key, as the upper or the lower side of the cell of record n
+pub record SideFacet (axis : ℕ) (upper : Bool) (key level n : ℕ) (far : Bool) (f : Facet) : Type 0 where
+  pub side : ℕ
+  pub placed : placeWith side ≡ sideLow (sideAt axis upper) (cell (placeWith key) level false)
+  pub made : f ≡ facet axis upper side level n (sideBit axis far)
+
 -- what is found across a side of the cell of a level at the place with a key: the record of the split cell of that size, or no record, where
 -- there is none
 pub record FoundAcross (tc : List ℕ) (axis : ℕ) (upper : Bool) (key level n : ℕ) : Type 0 where
-  pub split : n < length tc / 4 → (side low : ℕ) → placeWith side ≡ sideLow (sideAt axis upper) (cell (placeWith key) level false) →
-      low ≡ sideBit axis (not upper) → Across tc (facet axis upper side level n low)
+  pub split : n < length tc / 4 → (f : Facet) → SideFacet axis upper key level n (not upper) f → Across tc f
   pub whole : length tc / 4 ≤ n →
       any (splitAcross (sideAt axis upper) (sideLow (sideAt axis upper) (cell (placeWith key) level false)) level) (cellsOf tc) ≡ false
 

@@ -1,14 +1,30 @@
 // The corners, the edges and the quarters of a facet.
 ghost use mathlib.Core.Path.{_≡_};
-ghost use Prim.Native.Nat.{_≤_, _<_};
+ghost use Prim.Native.Nat.{_+_, _^_, _≤_, _<_};
 ghost use lib.ListN.{length};
-ghost use Rattle.base.specs.Grid.{axisOf};
+ghost use Rattle.base.specs.Grid.{Axis, axisOf, along};
 ghost use Rattle.rules.specs.Steps.{Side, Face, faceCorner, faceEdge};
 ghost use Rattle.octants.specs.Octants.{Octants};
-ghost use Rattle.faces.specs.Faces.{sideOf, faceOf, Room, Faced, FacetCorner, quarterBit, cornerQuarter, quarterOf};
+ghost use Rattle.faces.specs.Descent.{placeWith};
+ghost use Rattle.faces.specs.Faces.{sideOf, faceOf, SideFacet, Room, Faced, FacetCorner, quarterBit, cornerQuarter, quarterOf};
 use super::Facet;
 use super::corners;
 use super::sides;
+
+// A side of the cell of a level at the place with a key, as the upper or the lower side of the cell of record `n`.
+pub fn side_facet(axis: u32, upper: bool, key: u64, level: u8, n: usize, far: bool) -> Facet
+    requires { ⌜ (level ≤ 10) × ((a : Axis) → along a (placeWith key) + 2 ^ level ≤ 1024) ⌝ }
+    ensures { λ r. ⌜ SideFacet axis upper key level n far r ⌝ }
+{
+    Facet {
+        axis: axis,
+        upper: upper,
+        key: sides::side_key(axis, upper, key, level),
+        level: level,
+        cell: n,
+        low: sides::side_bit(axis, far),
+    }
+}
 
 // The axis of edge i of a facet.
 pub fn edge_axis(facet: Facet, i: usize) -> u32

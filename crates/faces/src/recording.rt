@@ -240,17 +240,9 @@ pub fn side_steps(
 {
     let axis = i / 2;
     let upper = i % 2 == 0;
-    let side = sides::side_key(axis, upper, key, level);
     let split = sides::split_across(cells, axis, upper, key, level);
     if split < cells.len() / 4 {
-        let beyond = Facet {
-            axis: axis,
-            upper: upper,
-            key: side,
-            level: level,
-            cell: split,
-            low: sides::side_bit(axis, !upper),
-        };
+        let beyond = facets::side_facet(axis, upper, key, level, split, !upper);
         small_faces(
             cells,
             corners,
@@ -267,14 +259,7 @@ pub fn side_steps(
         );
         return;
     }
-    let facet = Facet {
-        axis: axis,
-        upper: upper,
-        key: side,
-        level: level,
-        cell: n,
-        low: sides::side_bit(axis, upper),
-    };
+    let facet = facets::side_facet(axis, upper, key, level, n, upper);
     let pattern = patterns::own_pattern(wet, axis, upper);
     face_steps(
         cells,

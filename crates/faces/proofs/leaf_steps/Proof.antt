@@ -73,7 +73,7 @@ side-steps-requires c κs =
       (
         at .loop .inv .1 .sized,
         (
-          c .before .before .before .loop-test .taken,
+          omega (arith, c .before .before .before .loop-test .taken),
           leaf,
           marks-are (now (s .args .cells)) (now (s .args .corners)) (s .args .clearance) (s .args .n) (key s) (level s) leaf
               (m .before .leaf-at .result) _ (m .before .leaf-at .ensures) (m .leaf-marks .ensures),
