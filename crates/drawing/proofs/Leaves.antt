@@ -14,7 +14,7 @@ use mathlib.Core.Logic.{_⊎_, inl, inr}
 use mathlib.Core.Bool.{Bool, true, false, not, _||_, cond}
 use mathlib.Core.List.{List, [], _∷_, _++_, append-assoc, append-nil}
 use lib.Dec.{T, eqb}
-use lib.ListN.{length, take, drop, length-append}
+use lib.ListN.{length, getD, take, drop, length-append}
 use lib.Seq.{take-suc, take-length}
 use lib.Ieee.{Float}
 use borrow.Author.Tests.{eq-eqb, ne-eqb}
@@ -43,6 +43,7 @@ use Rattle.edges.proofs.Readings.{edges-law, few-places}
 use Rattle.trace.specs.Trace.{Trace, Traced, meets}
 use Rattle.loops.specs.Loops.{Leaf, into, Drawn, Loaded, Draws}
 use Rattle.loops.proofs.Slices.{length-numbers, numbers-append}
+use Rattle.loops.proofs.Blocks.{past-points}
 use Rattle.drawing.specs.Passes.{recordTriangles, trianglesTo, Drew}
 use Rattle.drawing.proofs.Slices.{into-nil, into-more}
 use Rattle.drawing.proofs.Passed.{few-records}
@@ -175,6 +176,12 @@ module _ (tc tk : List ℕ) (clearance : Float) (ok : accepted tc tk clearance �
       -- what drawing the loops of the leaf's trace asks for, and what it gives
       pub leaf-loaded : (twins : List ℕ) (t : Trace) → Twins s twins → Traced (leafSteps s (cellAt tc n)) t → Loaded twins t
       leaf-loaded twins t tw traced = record { leaf = leaf-of twins tw (cellAt tc n) is-leaf; traced = traced }
+
+      -- past the points of the survey there is no mark
+      pub past-marks : (twins : List ℕ) (t : Trace) → Twins s twins → Traced (leafSteps s (cellAt tc n)) t
+          → (v : ℕ) → length (pointEdges s) ≤ v → v < 14616 → getD (t .marks) v 0 ≡ 0
+      past-marks twins t tw traced v h b =
+          past-points twins t (record { leaf = leaf-of twins tw (cellAt tc n) is-leaf; traced = traced }) v h b
 
       pub leaf-drawn : (twins : List ℕ) (t u : Trace) (before after : List ℕ) (r : ℕ) → Twins s twins → Traced (leafSteps s (cellAt tc n)) t
           → Draws twins t before after r u → Drew (recordTriangles s (cellAt tc n)) before after r u

@@ -33,6 +33,7 @@ fn draw_record(
     levels: &[u8],
     octants: &[u16],
     n: usize,
+    points: usize,
     nexts: &mut [u16],
     marks: &mut [u8],
     blocks: &mut [u8],
@@ -41,6 +42,7 @@ fn draw_record(
     requires { ⌜ Ready (now cells) (now corners) clearance (tabled (now wets) (now lowest) (now far) (now numbers) (now twins) (now keys) (now levels) (now octants)) ⌝ }
     requires { ⌜ n < length (now cells) / 4 ⌝ }
     requires { ⌜ Traced [] (trace (now nexts) (now marks) (now blocks)) ⌝ }
+    requires { ⌜ points ≡ length (pointEdges (surveyOf (now cells) (now corners) clearance)) ⌝ }
     ensures { λ r. ⌜ Drew (recordTriangles (surveyOf (now (cells .entry)) (now (corners .entry)) clearance) (cellAt (now (cells .entry)) n))
         (now (out .entry)) (now (out .exit)) r (trace (now (nexts .exit)) (now (marks .exit)) (now (blocks .exit))) ⌝ }
 {
@@ -63,7 +65,7 @@ fn draw_record(
         blocks,
         n,
     );
-    loops::draw_loops(nexts, marks, blocks, twins, out)
+    loops::draw_loops(nexts, marks, blocks, twins, points, out)
 }
 
 // Where the part of a slice that is not yet filled begins, behind this many triangles.
@@ -90,6 +92,7 @@ fn draw_leaves(
     keys: &[u64],
     levels: &[u8],
     octants: &[u16],
+    points: usize,
     nexts: &mut [u16],
     marks: &mut [u8],
     blocks: &mut [u8],
@@ -97,6 +100,7 @@ fn draw_leaves(
 ) -> u32
     requires { ⌜ Ready (now cells) (now corners) clearance (tabled (now wets) (now lowest) (now far) (now numbers) (now twins) (now keys) (now levels) (now octants)) ⌝ }
     requires { ⌜ Traced [] (trace (now nexts) (now marks) (now blocks)) ⌝ }
+    requires { ⌜ points ≡ length (pointEdges (surveyOf (now cells) (now corners) clearance)) ⌝ }
     ensures { λ r. ⌜ Drew (allTriangles (surveyOf (now (cells .entry)) (now (corners .entry)) clearance))
         (now (out .entry)) (now (out .exit)) r (trace (now (nexts .exit)) (now (marks .exit)) (now (blocks .exit))) ⌝ }
 {
@@ -118,6 +122,7 @@ fn draw_leaves(
             levels,
             octants,
             n,
+            points,
             nexts,
             marks,
             blocks,
@@ -155,9 +160,11 @@ fn draw_pass(
     keys: &[u64],
     levels: &[u8],
     octants: &[u16],
+    points: usize,
     out: &mut [u32],
 ) -> u32
     requires { ⌜ Ready (now cells) (now corners) clearance (tabled (now wets) (now lowest) (now far) (now numbers) (now twins) (now keys) (now levels) (now octants)) ⌝ }
+    requires { ⌜ points ≡ length (pointEdges (surveyOf (now cells) (now corners) clearance)) ⌝ }
     ensures { λ r. ⌜ r ≡ length (allTriangles (surveyOf (now (cells .entry)) (now (corners .entry)) clearance)) ⌝ }
     ensures { λ _. ⌜ now (out .exit) ≡ into (collect pointNumbers (allTriangles (surveyOf (now (cells .entry)) (now (corners .entry)) clearance))) (now (out .entry)) ⌝ }
 {
@@ -176,6 +183,7 @@ fn draw_pass(
         keys,
         levels,
         octants,
+        points,
         &mut nexts,
         &mut marks,
         &mut blocks,
@@ -232,6 +240,7 @@ fn draw_tables(
         keys,
         levels,
         octants,
+        n,
         &mut none,
     );
     let number = shortage(points.len(), triangles.len(), n, m);
@@ -251,6 +260,7 @@ fn draw_tables(
         keys,
         levels,
         octants,
+        n,
         triangles,
     );
     result(0, n, m)

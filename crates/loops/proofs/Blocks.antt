@@ -3,7 +3,8 @@
 --     passes-none, passes-more, passes-past       rows of points, whatever leaf is left
 --     Sweeping                    the blocks before one are passed
 --     sweeps-none, sweeps-on, sweeps-past         no block, a block that is looked through, and one without a flag
---     sweeps-ready, sweeps-all    what the next block is drawn from, and what all blocks give
+--     sweeps-ready, sweeps-all    what the next block is drawn from, and what the blocks give past which there is no mark
+--     past-points                 past the points of a leaf there is no mark
 -- Assumes nothing.
 use mathlib.Core.Path.{_≡_, refl, sym, ap, _∙_, subst}
 use mathlib.Core.Bool.{Bool, true, false}
@@ -15,7 +16,7 @@ use lib.ListN.{length, getD, set, length-set}
 use lib.Seq.{length-sets, getD-set-other}
 use Rattle.base.specs.Lists.{bit, collect}
 use Rattle.rules.specs.Outputs.{numbers}
-use Rattle.trace.specs.Trace.{Trace, trace, Traced}
+use Rattle.trace.specs.Trace.{Trace, trace, Traced, meets}
 use Rattle.loops.specs.Loops.{Leaf, Loaded, Draws}
 use Rattle.loops.specs.Sweep.{Progress, progress, Left, fans, Swept, Ready, Passes, blockSize}
 use Rattle.loops.proofs.Sweep.{fans-few, swept-none, swept-more, swept-past, swept-row, begins, drawn}
@@ -130,8 +131,26 @@ module _ (twins : List ℕ) (before : Trace) (out : List ℕ) (block : ℕ) (blo
     room = omega (arith, swept-room (g .leaf) 0 (reach block) _ s (h .swept (g .leaf) (g .traced)) (omega arith));
   }
 
-pub sweeps-all : (twins : List ℕ) (before : Trace) (out : List ℕ) (block : ℕ) (blocks : List ℕ) (s : Progress) → block ≡ 115
+-- a block past which no point was marked is the last
+pub sweeps-all : (twins : List ℕ) (before : Trace) (out : List ℕ) (block : ℕ) (blocks : List ℕ) (s : Progress)
+    → ((v : ℕ) → 128 * block ≤ v → v < 14616 → getD (before .marks) v 0 ≡ 0)
     → Sweeping twins before out block blocks s → Draws twins before out (s .out) (s .count) (trace (s .nexts) (s .marks) blocks)
-sweeps-all twins before out block blocks s e h l t =
-    let all : reach block ≡ 14616 = omega arith in
-    drawn l (reach block) (progress (before .nexts) (before .marks) out 0) s blocks all refl (h .groups) (h .swept l t)
+sweeps-all twins before out block blocks s bare h l t =
+    let r = reach block in
+    let all : r + (14616 - r) ≡ 14616 = omega arith in
+    let past = swept-row l (14616 - r) (0 + r) s (omega arith) (h .swept l t .left) (λ x a b. none x (omega arith) (omega arith) (ℕ-discrete (getD (s .marks) x 0) 0)) in
+    drawn l (r + (14616 - r)) (progress (before .nexts) (before .marks) out 0) s blocks all refl (h .groups)
+    (swept-more l 0 r (14616 - r) _ s s (h .swept l t) past)
+  where
+    none : (x : ℕ) → reach block ≤ x → x < 14616 → Dec (getD (s .marks) x 0 ≡ 0) → getD (s .marks) x 0 ≡ 0
+    none x a b (yes q) = q
+    none x a b (no d) =
+        let was : getD (before .marks) x 0 ≡ 1 = h .swept l t .fewer x b (one-mark l (0 + reach block) x s (h .swept l t .left) b d) in
+        absurd (omega (arith, bare x (omega arith) b))
+
+pub past-points : (twins : List ℕ) (t : Trace) (g : Loaded twins t) (v : ℕ) → g .leaf .points ≤ v → v < 14616 → getD (t .marks) v 0 ≡ 0
+past-points twins t g v h b = go (meets (g .leaf .steps) v) refl
+  where
+    go : (m : Bool) → meets (g .leaf .steps) v ≡ m → getD (t .marks) v 0 ≡ 0
+    go true e = absurd (omega (arith, g .leaf .inside v e))
+    go false e = g .traced .mark v b ∙ ap bit e

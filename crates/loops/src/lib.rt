@@ -1,7 +1,7 @@
 // The loops of a leaf, each from its lowest point on, and their triangles, written into what is lent.
 ghost use mathlib.Core.Path.{_≡_};
 ghost use mathlib.Core.List.{[], _∷_};
-ghost use Prim.Native.Nat.{_+_, _*_, _<_, _≤_};
+ghost use Prim.Native.Nat.{ℕ, _+_, _*_, _<_, _≤_};
 ghost use lib.ListN.{length, set, getD};
 ghost use lib.Seq.{sets};
 ghost use Rattle.trace.specs.Trace.{trace};
@@ -173,6 +173,14 @@ fn take_flag(blocks: &mut [u8], block: u16) -> u8
     flag
 }
 
+// How many blocks the points are in.
+fn blocks_of(points: usize) -> u16
+    requires { ⌜ points ≤ 14616 ⌝ }
+    ensures { λ r. ⌜ (r ≤ 115) × (points ≤ 128 * r) ⌝ }
+{
+    ((points + 127) / 128) as u16
+}
+
 // The loops of a leaf, by their lowest points: their triangles, written into the lent slice as far as it goes; how many there are. The trace is
 // empty again afterwards.
 pub fn draw_loops(
@@ -180,17 +188,20 @@ pub fn draw_loops(
     marks: &mut [u8],
     blocks: &mut [u8],
     twins: &[u16],
+    points: usize,
     out: &mut [u32],
 ) -> u32
     requires { ⌜ length (now twins) ≡ 14616 ⌝ }
+    requires { ⌜ (points ≤ 14616) × ((v : ℕ) → points ≤ v → v < 14616 → getD (now marks) v 0 ≡ 0) ⌝ }
     requires { ⌜ Loaded (now twins) (trace (now nexts) (now marks) (now blocks)) ⌝ }
     ensures { λ r. ⌜ Draws (now (twins .entry))
         (trace (now (nexts .entry)) (now (marks .entry)) (now (blocks .entry))) (now (out .entry)) (now (out .exit)) r
         (trace (now (nexts .exit)) (now (marks .exit)) (now (blocks .exit))) ⌝ }
 {
+    let end = blocks_of(points);
     let mut count: u32 = 0;
     let mut block: u16 = 0;
-    while block < 115 {
+    while block < end {
         if take_flag(blocks, block) != 0 {
             count = draw_block(nexts, marks, twins, block, out, count);
         }

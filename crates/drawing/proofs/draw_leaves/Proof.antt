@@ -15,18 +15,18 @@ use Rattle.drawing.proofs.draw_leaves.Statement.{statement}
 use Rattle.drawing.proofs.draw_leaves.Tie as tie
 
 abbrev Inv-loop : tie.InvT-loop
-Inv-loop cells corners clearance wets lowest far numbers twins keys levels octants nexts₀ marks₀ blocks₀ out₀ records count₀ n₀ nexts marks blocks out count n =
+Inv-loop cells corners clearance wets lowest far numbers twins keys levels octants points nexts₀ marks₀ blocks₀ out₀ records count₀ n₀ nexts marks blocks out count n =
     (n ≤ length cells / 4) × Drew (trianglesTo (surveyOf cells corners clearance) n) out₀ out count (trace nexts marks blocks)
 
 abbrev μ-loop : tie.MeasureT-loop
-μ-loop cells corners clearance wets lowest far numbers twins keys levels octants nexts₀ marks₀ blocks₀ out₀ records count₀ n₀ nexts marks blocks out count n =
+μ-loop cells corners clearance wets lowest far numbers twins keys levels octants points nexts₀ marks₀ blocks₀ out₀ records count₀ n₀ nexts marks blocks out count n =
     length cells / 4 - n
 
 loop-holds : tie.Need-loop-holds Inv-loop μ-loop
 loop-holds c =
     let s = c .before .before .before .before .before .before .before .before .before .before .before .before .before .before in
     let a = s .args in
-    (omega arith, drew-none (a .cells .now) (a .corners .now) (a .clearance) (s .pre .0 .passed) (a .out .now) (trace _ _ _) (s .pre .1))
+    (omega arith, drew-none (a .cells .now) (a .corners .now) (a .clearance) (s .pre .0 .passed) (a .out .now) (trace _ _ _) (s .pre .1 .0))
 
 filled-requires : tie.Need-filled-requires Inv-loop μ-loop
 filled-requires c κs = search needs
@@ -36,7 +36,7 @@ mul-draw-record c =
     let l = c .before .before .before .before .before .loop in
     let e : c .before .before .before .filled .result ≡ min (3 * l .count) (length (l .out)) = c .before .before .before .filled .ensures in
     let same : length (l .out) ≡ length (c .before .before .before .before .before .before .before .before .before .before .before .before .before .before .before .before .before .before .before .before .args .out .now) = ap length (l .inv .1 .wrote) ∙ into-length _ (c .before .before .before .before .before .before .before .before .before .before .before .before .before .before .before .before .before .before .before .before .args .out .now) in
-    omega (arith, e, same, c .before .before .before .before .before .before .before .before .before .before .before .before .before .before .before .before .before .before .before .before .good .1 .1 .1 .1 .1 .1 .1 .1 .1 .1 .1 .1 .1 .1 .0)
+    omega (arith, e, same, c .before .before .before .before .before .before .before .before .before .before .before .before .before .before .before .before .before .before .before .before .good .1 .1 .1 .1 .1 .1 .1 .1 .1 .1 .1 .1 .1 .1 .1 .0)
 
 sub-draw-record : tie.Need-sub-draw-record Inv-loop μ-loop
 sub-draw-record c = omega (arith, c .before .before .before .filled .ensures)
@@ -48,7 +48,9 @@ part-draw-record-end : tie.Need-part-draw-record-end Inv-loop μ-loop
 part-draw-record-end c = search needs
 
 draw-record-requires : tie.Need-draw-record-requires Inv-loop μ-loop
-draw-record-requires c κs = (c .before .before .before .before .before .before .before .before .before .before .before .before .before .before .before .before .before .before .before .before .before .pre .0, (c .before .before .before .before .before .loop-test .taken, c .before .before .before .before .before .before .loop .inv .1 .emptied))
+draw-record-requires c κs =
+    let s = c .before .before .before .before .before .before .before .before .before .before .before .before .before .before .before .before .before .before .before .before .before in
+    (s .pre .0, (c .before .before .before .before .before .loop-test .taken, (c .before .before .before .before .before .before .loop .inv .1 .emptied, s .pre .1 .1)))
 
 add-count : tie.Need-add-count Inv-loop μ-loop
 add-count c =
@@ -78,13 +80,13 @@ loop-again c =
     )
 
 same-length : tie.Need-same-length Inv-loop μ-loop
-same-length c = c .before .loop .inv .1 .emptied .sized .points ∙ sym (c .before .before .before .before .before .before .before .before .before .before .before .before .before .before .before .before .pre .1 .sized .points)
+same-length c = c .before .loop .inv .1 .emptied .sized .points ∙ sym (c .before .before .before .before .before .before .before .before .before .before .before .before .before .before .before .before .pre .1 .0 .sized .points)
 
 same-length-2 : tie.Need-same-length-2 Inv-loop μ-loop
-same-length-2 c = c .before .loop .inv .1 .emptied .sized .same ∙ sym (c .before .before .before .before .before .before .before .before .before .before .before .before .before .before .before .before .pre .1 .sized .same)
+same-length-2 c = c .before .loop .inv .1 .emptied .sized .same ∙ sym (c .before .before .before .before .before .before .before .before .before .before .before .before .before .before .before .before .pre .1 .0 .sized .same)
 
 same-length-3 : tie.Need-same-length-3 Inv-loop μ-loop
-same-length-3 c = c .before .loop .inv .1 .emptied .sized .groups ∙ sym (c .before .before .before .before .before .before .before .before .before .before .before .before .before .before .before .before .pre .1 .sized .groups)
+same-length-3 c = c .before .loop .inv .1 .emptied .sized .groups ∙ sym (c .before .before .before .before .before .before .before .before .before .before .before .before .before .before .before .before .pre .1 .0 .sized .groups)
 
 same-length-4 : tie.Need-same-length-4 Inv-loop μ-loop
 same-length-4 c = ap length (c .before .loop .inv .1 .wrote) ∙ into-length _ (c .before .before .before .before .before .before .before .before .before .before .before .before .before .before .before .before .args .out .now)

@@ -14,7 +14,7 @@ slice-aggregate-draw-leaves-3 : tie.Need-slice-aggregate-draw-leaves-3
 slice-aggregate-draw-leaves-3 c = search needs
 
 draw-leaves-requires : tie.Need-draw-leaves-requires
-draw-leaves-requires c κs = (c .before .before .before .before .before .before .before .before .before .before .before .before .before .before .before .pre, fresh)
+draw-leaves-requires c κs = (c .before .before .before .before .before .before .before .before .before .before .before .before .before .before .before .pre .0, (fresh, c .before .before .before .before .before .before .before .before .before .before .before .before .before .before .before .pre .1))
 
 same-length : tie.Need-same-length
 same-length c = search needs

@@ -7,7 +7,7 @@ use lib.ListN.{length}
 use Rattle.rules.specs.Survey.{entry}
 use Rattle.trace.specs.Trace.{trace}
 use Rattle.drawing.proofs.Slices.{into-length}
-use Rattle.drawing.proofs.Leaves.{drew-nothing, record-split, leaf-loaded, leaf-drawn}
+use Rattle.drawing.proofs.Leaves.{points-few, drew-nothing, record-split, leaf-loaded, past-marks, leaf-drawn}
 use Rattle.drawing.proofs.draw_record.Statement.{statement}
 use Rattle.drawing.proofs.draw_record.Tie as tie
 
@@ -21,7 +21,7 @@ returns c =
     let a = s .args in
     let ready = s .pre .0 in
     let inside = s .pre .1 .0 in
-    let empty = s .pre .1 .1 in
+    let empty = s .pre .1 .1 .0 in
     let some : entry (a .cells .now) (a .n) ≡ 0 → ⊥ = λ e. c .if1 .taken (c .before .cell-entry .ensures ∙ e) in
     drew-nothing _ _ _ (record-split (a .cells .now) (a .corners .now) (a .clearance) (ready .passed) (a .n) inside some) empty
 
@@ -31,7 +31,7 @@ leaf-steps-requires c κs =
     let a = s .args in
     let ready = s .pre .0 in
     let inside = s .pre .1 .0 in
-    let empty = s .pre .1 .1 in (
+    let empty = s .pre .1 .1 .0 in (
       record { passed = ready .passed; wet = ready .wet; low = ready .low; end = ready .end; number = ready .number; octant = ready .octant },
       (empty .sized, (ready .laid, (inside, omega (arith, ready .keys-reach, inside), omega (arith, ready .levels-reach, inside)))),
     )
@@ -42,11 +42,14 @@ draw-loops-requires c κs =
     let a = s .args in
     let ready = s .pre .0 in
     let inside = s .pre .1 .0 in
-    let empty = s .pre .1 .1 in
+    let empty = s .pre .1 .1 .0 in
     let whole : entry (a .cells .now) (a .n) ≡ 0 = sym (c .before .before .before .before .before .before .before .before .before .before .before .before .before .before .before .cell-entry .ensures) ∙ c .before .before .before .before .before .before .before .before .before .before .before .before .before .before .if1 .left in
-    let traced = c .before .before .before .before .before .before .before .before .before .before .leaf-steps .ensures .adds [] empty in (
+    let traced = c .before .before .before .before .before .before .before .before .before .before .leaf-steps .ensures .adds [] empty in
+    let loaded = leaf-loaded (a .cells .now) (a .corners .now) (a .clearance) (ready .passed) (a .n) inside whole (a .twins .now) (trace _ _ _) (ready .twin) traced in
+    let few = points-few (a .cells .now) (a .corners .now) (a .clearance) (ready .passed) in
+    let all = s .pre .1 .1 .1 in (
       ready .twin .size,
-      leaf-loaded (a .cells .now) (a .corners .now) (a .clearance) (ready .passed) (a .n) inside whole (a .twins .now) (trace _ _ _) (ready .twin) traced,
+      ((omega arith, λ v h k. past-marks (a .cells .now) (a .corners .now) (a .clearance) (ready .passed) (a .n) inside whole (a .twins .now) (trace _ _ _) (ready .twin) traced v (omega arith) k), loaded),
     )
 
 same-length : tie.Need-same-length
@@ -55,7 +58,7 @@ same-length c =
     let a = s .args in
     let ready = s .pre .0 in
     let inside = s .pre .1 .0 in
-    let empty = s .pre .1 .1 in
+    let empty = s .pre .1 .1 .0 in
     let whole : entry (a .cells .now) (a .n) ≡ 0 = sym (c .before .before .before .before .before .before .before .before .before .before .before .before .before .before .before .before .before .before .before .before .before .before .before .before .cell-entry .ensures) ∙ c .before .before .before .before .before .before .before .before .before .before .before .before .before .before .before .before .before .before .before .before .before .before .before .if1 .left in
     let traced = c .before .before .before .before .before .before .before .before .before .before .before .before .before .before .before .before .before .before .before .leaf-steps .ensures .adds [] empty in
     let loaded = leaf-loaded (a .cells .now) (a .corners .now) (a .clearance) (ready .passed) (a .n) inside whole (a .twins .now) (trace _ _ _) (ready .twin) traced in
@@ -67,7 +70,7 @@ same-length-2 c =
     let a = s .args in
     let ready = s .pre .0 in
     let inside = s .pre .1 .0 in
-    let empty = s .pre .1 .1 in
+    let empty = s .pre .1 .1 .0 in
     let whole : entry (a .cells .now) (a .n) ≡ 0 = sym (c .before .before .before .before .before .before .before .before .before .before .before .before .before .before .before .before .before .before .before .before .before .before .before .before .cell-entry .ensures) ∙ c .before .before .before .before .before .before .before .before .before .before .before .before .before .before .before .before .before .before .before .before .before .before .before .if1 .left in
     let traced = c .before .before .before .before .before .before .before .before .before .before .before .before .before .before .before .before .before .before .before .leaf-steps .ensures .adds [] empty in
     let loaded = leaf-loaded (a .cells .now) (a .corners .now) (a .clearance) (ready .passed) (a .n) inside whole (a .twins .now) (trace _ _ _) (ready .twin) traced in
@@ -79,7 +82,7 @@ same-length-3 c =
     let a = s .args in
     let ready = s .pre .0 in
     let inside = s .pre .1 .0 in
-    let empty = s .pre .1 .1 in
+    let empty = s .pre .1 .1 .0 in
     let whole : entry (a .cells .now) (a .n) ≡ 0 = sym (c .before .before .before .before .before .before .before .before .before .before .before .before .before .before .before .before .before .before .before .before .before .before .before .before .cell-entry .ensures) ∙ c .before .before .before .before .before .before .before .before .before .before .before .before .before .before .before .before .before .before .before .before .before .before .before .if1 .left in
     let traced = c .before .before .before .before .before .before .before .before .before .before .before .before .before .before .before .before .before .before .before .leaf-steps .ensures .adds [] empty in
     let loaded = leaf-loaded (a .cells .now) (a .corners .now) (a .clearance) (ready .passed) (a .n) inside whole (a .twins .now) (trace _ _ _) (ready .twin) traced in
@@ -91,7 +94,7 @@ same-length-4 c =
     let a = s .args in
     let ready = s .pre .0 in
     let inside = s .pre .1 .0 in
-    let empty = s .pre .1 .1 in
+    let empty = s .pre .1 .1 .0 in
     let whole : entry (a .cells .now) (a .n) ≡ 0 = sym (c .before .before .before .before .before .before .before .before .before .before .before .before .before .before .before .before .before .before .before .before .before .before .before .before .cell-entry .ensures) ∙ c .before .before .before .before .before .before .before .before .before .before .before .before .before .before .before .before .before .before .before .before .before .before .before .if1 .left in
     let traced = c .before .before .before .before .before .before .before .before .before .before .before .before .before .before .before .before .before .before .before .leaf-steps .ensures .adds [] empty in
     let loaded = leaf-loaded (a .cells .now) (a .corners .now) (a .clearance) (ready .passed) (a .n) inside whole (a .twins .now) (trace _ _ _) (ready .twin) traced in
@@ -104,7 +107,7 @@ returns-2 c =
     let a = s .args in
     let ready = s .pre .0 in
     let inside = s .pre .1 .0 in
-    let empty = s .pre .1 .1 in
+    let empty = s .pre .1 .1 .0 in
     let whole : entry (a .cells .now) (a .n) ≡ 0 = sym (c .before .before .before .before .before .before .before .before .before .before .before .before .before .before .before .before .before .before .before .before .before .before .before .before .cell-entry .ensures) ∙ c .before .before .before .before .before .before .before .before .before .before .before .before .before .before .before .before .before .before .before .before .before .before .before .if1 .left in
     let traced = c .before .before .before .before .before .before .before .before .before .before .before .before .before .before .before .before .before .before .before .leaf-steps .ensures .adds [] empty in
     leaf-drawn (a .cells .now) (a .corners .now) (a .clearance) (ready .passed) (a .n) inside whole (a .twins .now) (trace _ _ _) (trace _ _ _) _ _ _ (ready .twin) traced

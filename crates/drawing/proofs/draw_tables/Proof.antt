@@ -12,7 +12,7 @@ slice-aggregate-draw-pass : tie.Need-slice-aggregate-draw-pass
 slice-aggregate-draw-pass c = search needs
 
 draw-pass-requires : tie.Need-draw-pass-requires
-draw-pass-requires c κs = search needs
+draw-pass-requires c κs = let s = c .before .before .before .before .before .before .before .before .before .before .before .before .before .before in (s .pre .0, s .pre .1 .1)
 
 shortage-requires : tie.Need-shortage-requires
 shortage-requires c κs =
@@ -53,7 +53,7 @@ write-points-requires c κs =
     (ok, (s .pre .0 .low, (s .pre .0 .end, (s .pre .1 .0, (s .pre .1 .1, room .0)))))
 
 draw-pass-requires-2 : tie.Need-draw-pass-requires-2
-draw-pass-requires-2 c κs = c .before .before .before .before .before .before .before .before .before .before .before .before .before .before .before .before .before .before .before .before .before .before .before .pre .0
+draw-pass-requires-2 c κs = let s = c .before .before .before .before .before .before .before .before .before .before .before .before .before .before .before .before .before .before .before .before .before .before .before in (s .pre .0, s .pre .1 .1)
 
 result-requires-2 : tie.Need-result-requires-2
 result-requires-2 c κs =
@@ -78,7 +78,7 @@ returns-2 c =
     let number = c .before .before .before .before .before .before .before .before .before .before .shortage in
     let zero = c .before .before .before .before .before .before .before .before .before .if1 .left in
     let points = c .before .before .before .before .before .before .before .write-points .last .1 .1 .1 .1 .1 .1 .1 .0 in
-    let triangles = c .before .before .before .draw-pass2 .last .1 .1 .1 .1 .1 .1 .1 .1 .1 .1 .1 .0 in
+    let triangles = c .before .before .before .draw-pass2 .last .1 .1 .1 .1 .1 .1 .1 .1 .1 .1 .1 .1 .0 in
     subst (λ r. Draws (lent (a .cells .now) (a .corners .now) (a .clearance) (a .points .now) (a .triangles .now)) r points triangles) (sym (c .result2 .ensures))
     (drawn (a .cells .now) (a .corners .now) (a .clearance) (a .points .now) (a .triangles .now) ok (a .n) (m .result) (number .result) (s .pre .1 .1)
     (m .ensures .0) (number .ensures) zero points triangles (c .before .before .before .before .before .before .before .write-points .ensures)

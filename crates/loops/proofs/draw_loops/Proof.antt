@@ -13,14 +13,14 @@ use Rattle.loops.proofs.draw_loops.Statement.{statement}
 use Rattle.loops.proofs.draw_loops.Tie as tie
 
 abbrev Inv-loop : tie.InvT-loop
-Inv-loop nexts₀ marks₀ blocks₀ twins out₀ count₀ block₀ nexts marks blocks out count block =
-    (block ≤ 115) × Sweeping twins (trace nexts₀ marks₀ blocks₀) out₀ block blocks (progress nexts marks out count)
+Inv-loop nexts₀ marks₀ blocks₀ twins points out₀ end count₀ block₀ nexts marks blocks out count block =
+    (block ≤ end) × Sweeping twins (trace nexts₀ marks₀ blocks₀) out₀ block blocks (progress nexts marks out count)
 
 abbrev μ-loop : tie.MeasureT-loop
-μ-loop nexts₀ marks₀ blocks₀ twins out₀ count₀ block₀ nexts marks blocks out count block = 115 - block
+μ-loop nexts₀ marks₀ blocks₀ twins points out₀ end count₀ block₀ nexts marks blocks out count block = end - block
 
 abbrev start : tie.At-loop Inv-loop μ-loop → tie.Start Inv-loop μ-loop
-start c = c .before .before .before .before .before .before
+start c = c .before .before .before .before .before .before .before
 
 abbrev entry : tie.At-loop Inv-loop μ-loop → Trace
 entry c = trace (now (start c .args .nexts)) (now (start c .args .marks)) (now (start c .args .blocks))
@@ -30,13 +30,16 @@ here c = progress (c .loop .nexts) (c .loop .marks) (c .loop .out) (c .loop .cou
 
 -- the leaf at entry is swept up to the block at hand
 swept : (c : tie.At-loop Inv-loop μ-loop)
-    → Swept (start c .pre .1 .leaf) 0 (reach (c .loop .block)) (progress (entry c .nexts) (entry c .marks) (now (start c .args .out)) 0) (here c)
-swept c = c .loop .inv .1 .swept (start c .pre .1 .leaf) (start c .pre .1 .traced)
+    → Swept (start c .pre .1 .1 .leaf) 0 (reach (c .loop .block)) (progress (entry c .nexts) (entry c .marks) (now (start c .args .out)) 0) (here c)
+swept c = c .loop .inv .1 .swept (start c .pre .1 .1 .leaf) (start c .pre .1 .1 .traced)
+
+blocks-of-requires : tie.Need-blocks-of-requires Inv-loop μ-loop
+blocks-of-requires c κs = search needs
 
 loop-holds : tie.Need-loop-holds Inv-loop μ-loop
 loop-holds c =
-    let at = c .before .before .before .before .before in
-    (omega arith, sweeps-none _ (trace _ _ _) _ (at .pre .1 .traced .sized .groups))
+    let at = c .before .before .before .before .before .before in
+    (omega arith, sweeps-none _ (trace _ _ _) _ (at .pre .1 .1 .traced .sized .groups))
 
 take-flag-requires : tie.Need-take-flag-requires Inv-loop μ-loop
 take-flag-requires c κs = omega (arith, c .before .before .loop .inv .1 .groups)
@@ -44,8 +47,8 @@ take-flag-requires c κs = omega (arith, c .before .before .loop .inv .1 .groups
 draw-block-requires : tie.Need-draw-block-requires Inv-loop μ-loop
 draw-block-requires c κs =
     let at = c .before .before .before .before .before .before .before .before .before in
-    let i : at .loop .block < 115 = omega arith in
-    (sweeps-ready _ (entry at) _ _ _ (here at) i (at .loop .inv .1) (start at .pre .0) (start at .pre .1), i)
+    let i : at .loop .block < 115 = omega (arith, at .before .blocks-of .ensures) in
+    (sweeps-ready _ (entry at) _ _ _ (here at) i (at .loop .inv .1) (start at .pre .0) (start at .pre .1 .1), i)
 
 add-block : tie.Need-add-block Inv-loop μ-loop
 add-block c = search needs
@@ -57,7 +60,7 @@ loop-again : tie.Need-loop-again Inv-loop μ-loop
 loop-again c =
     let taken = c .before .before .before in
     let at = taken .before .before .before in
-    let i : at .loop .block < 115 = omega arith in
+    let i : at .loop .block < 115 = omega (arith, at .before .blocks-of .ensures) in
     let Next : Progress → Type 0 =
     Sweeping (now (start at .args .twins)) (entry at) (now (start at .args .out)) (at .loop .block + 1) (taken .take-flag .last .0) in
     let flag = taken .take-flag .ensures in (
@@ -71,13 +74,13 @@ loop-again c =
     )
 
 same-length : tie.Need-same-length Inv-loop μ-loop
-same-length c = swept (c .before) .left .held .nextsLong ∙ sym (start (c .before) .pre .1 .traced .sized .points)
+same-length c = swept (c .before) .left .held .nextsLong ∙ sym (start (c .before) .pre .1 .1 .traced .sized .points)
 
 same-length-2 : tie.Need-same-length-2 Inv-loop μ-loop
-same-length-2 c = swept (c .before) .left .held .marksLong ∙ sym (start (c .before) .pre .1 .traced .sized .same)
+same-length-2 c = swept (c .before) .left .held .marksLong ∙ sym (start (c .before) .pre .1 .1 .traced .sized .same)
 
 same-length-3 : tie.Need-same-length-3 Inv-loop μ-loop
-same-length-3 c = c .before .loop .inv .1 .groups ∙ sym (start (c .before) .pre .1 .traced .sized .groups)
+same-length-3 c = c .before .loop .inv .1 .groups ∙ sym (start (c .before) .pre .1 .1 .traced .sized .groups)
 
 same-length-4 : tie.Need-same-length-4 Inv-loop μ-loop
 same-length-4 c = swept-long _ _ _ _ _ (swept (c .before))
@@ -85,7 +88,8 @@ same-length-4 c = swept-long _ _ _ _ _ (swept (c .before))
 returns : tie.Need-returns Inv-loop μ-loop
 returns c =
     let at = c .before in
-    sweeps-all _ (entry at) _ _ _ (here at) (omega arith) (at .loop .inv .1)
+    let ends = at .before .blocks-of .ensures in
+    sweeps-all _ (entry at) _ _ _ (here at) (λ v h b. start at .pre .1 .0 .1 v (omega arith) b) (at .loop .inv .1)
 
 pub draw-loops-spec : {M : Type 1} → statement M
 draw-loops-spec =
@@ -93,6 +97,7 @@ draw-loops-spec =
     (tie.spec
     Inv-loop
     μ-loop
+    blocks-of-requires
     loop-holds
     take-flag-requires
     draw-block-requires
