@@ -1,11 +1,12 @@
 -- The corners of a facet by the table of cells' corners: which octants of its cell they are, and their wet marks.
-use Prim.Native.Nat.{ℕ, zero, suc, _+_, _^_, _≤_, _<_}
+use Prim.Native.Nat.{ℕ, zero, suc, _+_, _-_, _^_, _≤_, _<_}
 use mathlib.Core.Path.{_≡_, refl, sym, ap, _∙_}
-use mathlib.Core.Bool.{true}
+use mathlib.Core.Bool.{true, cond}
 use mathlib.Core.List.{List}
 use native.Mathlib.Omega.{arith}
 use lib.ListN.{getD}
 use lib.Ieee.{Float}
+use borrow.Author.Tests.{le-ltb}
 use Rattle.base.specs.Lists.{bit}
 use Rattle.base.specs.Grid.{Place, origin, octants}
 use Rattle.base.proofs.Tests.{bit-le}
@@ -19,6 +20,10 @@ use Rattle.faces.specs.Descent.{placeWith}
 use Rattle.faces.specs.Faces.{sideOf, faceOf, quarterBit, cornerQuarter, Faced, FacetCorner}
 use Rattle.faces.specs.declared.Facet.{Facet}
 use Rattle.faces.proofs.Across.{quarterLow, quarter-few, quarter-octant}
+
+-- the quarters at the two corners above
+pub quarter-above : (j r : ℕ) → 2 ≤ j → r + j ≡ 5 → r ≡ cornerQuarter j
+quarter-above j r h e = (let q : r ≡ 5 - j = omega arith in q) ∙ sym (ap (λ b. cond b j (5 - j)) (le-ltb j 2 h))
 
 -- corner j of a face is where the quarter there would be if it were as large as the face
 quarter-corner : (s : Side) (p : Place) (l j : ℕ) → j < 4 → quarterLow s (2 ^ l) p (cornerQuarter j) ≡ faceCorner s (face p l) j

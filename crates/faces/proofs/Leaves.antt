@@ -25,8 +25,8 @@ use Rattle.octants.specs.Octants.{octantOf, Octant}
 use Rattle.edges.specs.Noting.{keyUnit}
 use Rattle.trace.specs.Trace.{Trace, Recorded}
 use Rattle.faces.specs.Descent.{placeWith, Grown}
-use Rattle.faces.specs.Faces.{sideAt, sideOf, faceOf, sideNumber, sideBit, octantBit, LeafAt, Faced, SideFacet, FoundAcross, ownPattern, facePattern, cornerMarks, facetSteps}
-use Rattle.faces.specs.Faces.{sideSteps, smallSteps}
+use Rattle.faces.specs.Faces.{sideAt, sideOf, faceOf, sideNumber, sideBit, octantBit, LeafAt, Faced, SideFacet, FoundAcross, ownPattern, facePattern}
+use Rattle.faces.specs.Faces.{cornerMarks, facetSteps, sideSteps, smallSteps}
 use Rattle.faces.specs.declared.Facet.{Facet}
 use Rattle.faces.proofs.Keys.{octant-unit, place-of-key}
 use Rattle.faces.proofs.Firsts.{firsts}

@@ -10,7 +10,9 @@ abbrev start : tie.After-wide → tie.Start
 start c = c .before .before .before .before .before .before .before .before .before .before .before .before
 
 step-from-requires : tie.Need-step-from-requires
-step-from-requires c κs = let s = c .before .before .before .before .before .before .before .before .before .before in (s .pre .1 .1 .1 .1 .0, s .pre .1 .1 .1 .0)
+step-from-requires c κs =
+    let s = c .before .before .before .before .before .before .before .before .before .before in
+    (s .pre .1 .1 .1 .1 .0, s .pre .1 .1 .1 .0)
 
 wide-requires : tie.Need-wide-requires
 wide-requires c κs = search needs
