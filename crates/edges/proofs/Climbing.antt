@@ -20,7 +20,7 @@ use Rattle.records.specs.Keys.{keyOf, placesOf}
 use Rattle.records.proofs.Keys.{Bytes, Short, record-short, get-place}
 use Rattle.octree.proofs.Halves.{move-move}
 use Rattle.edges.specs.Tables.{placeAt}
-use Rattle.edges.specs.Noting.{keyUnit}
+use Rattle.edges.specs.Searching.{keyUnit}
 use Rattle.edges.proofs.Find.{key-back}
 use Rattle.edges.proofs.Descent.{point-is}
 

@@ -17,7 +17,7 @@ use Rattle.records.specs.Keys.{keyOf, placesOf, recordAt}
 use Rattle.records.proofs.Keys.{Bytes, get-place, length-places}
 use Rattle.records.proofs.Search.{keyAt, keys-rise, is-at}
 use Rattle.edges.specs.Tables.{placeAt}
-use Rattle.edges.specs.Noting.{keyUnit}
+use Rattle.edges.specs.Searching.{keyUnit}
 
 pub key-move : (a : Axis) (d : ℕ) (p : Place) → keyOf (move a d p) ≡ keyOf p + d * keyUnit a
 unfolding keyOf

@@ -19,7 +19,7 @@ use Rattle.records.proofs.Keys.{get-place, length-places}
 use Rattle.records.proofs.Search.{keyAt}
 use Rattle.octree.proofs.Accepted.{accepted→, lawful}
 use Rattle.edges.specs.Tables.{placeAt, lowestLevel, crossedSlot, Lowest, Far, Wets, UpperEnd}
-use Rattle.edges.specs.Noting.{keyUnit, Corners}
+use Rattle.edges.specs.Searching.{keyUnit, Corners}
 use Rattle.edges.proofs.Find.{key-move}
 use Rattle.edges.proofs.Levels.{Edged, lowest-edge}
 use Rattle.edges.proofs.Lawfully.{edged}

@@ -26,7 +26,7 @@ use Rattle.octree.proofs.Aligned.{corner-place, edge-level}
 use Rattle.octree.proofs.Edges.{upper-end}
 use Rattle.octree.proofs.Accepted.{Checked, checked, checked-lawful}
 use Rattle.edges.specs.Tables.{edgesOf, placeAt}
-use Rattle.edges.specs.Noting.{Corners}
+use Rattle.edges.specs.Searching.{Corners}
 use Rattle.edges.proofs.Notes.{edges-none}
 
 within-limit : (a b : Bool) (limit n : ℕ) → (a || (b || ltb limit n)) ≡ false → n ≤ limit

@@ -12,7 +12,7 @@ ghost use Rattle.places.specs.Places.{asSpot};
 ghost use Rattle.rules.specs.Steps.{isUpper};
 ghost use Rattle.records.specs.Keys.{placesOf};
 ghost use Rattle.edges.specs.Tables.{placeAt, Wets, Lowest, Far, UpperEnd, OddEdge, CarrierSlot};
-ghost use Rattle.edges.specs.Noting.{Corners};
+ghost use Rattle.edges.specs.Searching.{Corners};
 use super::keys;
 use places::Point;
 

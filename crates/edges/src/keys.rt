@@ -5,7 +5,7 @@ ghost use Prim.Native.Nat.{_+_, _-_, _*_, _^_, _≤_, _<_, min, max};
 ghost use lib.Dec.{ltb};
 ghost use Rattle.base.specs.Lists.{bit};
 ghost use Rattle.base.specs.Grid.{axisOf};
-ghost use Rattle.edges.specs.Noting.{keyUnit};
+ghost use Rattle.edges.specs.Searching.{keyUnit};
 ghost use Rattle.rules.specs.Outputs.{levelOf};
 
 // The lower of two levels.

@@ -16,7 +16,7 @@ use Rattle.records.specs.Keys.{keyOf}
 use Rattle.cells.specs.Laid.{octantKey}
 use Rattle.cells.proofs.Octants.{octant-key-is, octant-key-le, size-fits}
 use Rattle.cells.proofs.Laying.{key-small}
-use Rattle.edges.specs.Noting.{keyUnit}
+use Rattle.edges.specs.Searching.{keyUnit}
 use Rattle.rules.specs.Survey.{Cell}
 use Rattle.rules.specs.Steps.{Side, Face, faceCorner, faceEdge}
 use Rattle.octree.proofs.Lawful.{Octree}

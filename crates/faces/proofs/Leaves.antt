@@ -22,7 +22,7 @@ use Rattle.edges.proofs.Find.{found-self}
 use Rattle.octree.proofs.Aligned.{cell-in-box}
 use Rattle.cells.specs.Laid.{octantKey, cellAt, Laid}
 use Rattle.octants.specs.Octants.{octantOf, Octant}
-use Rattle.edges.specs.Noting.{keyUnit}
+use Rattle.edges.specs.Searching.{keyUnit}
 use Rattle.trace.specs.Trace.{Trace, Recorded}
 use Rattle.faces.specs.Descent.{placeWith, Grown}
 use Rattle.faces.specs.Faces.{sideAt, sideOf, faceOf, sideNumber, sideBit, octantBit, LeafAt, Faced, SideFacet, FoundAcross, ownPattern, facePattern}

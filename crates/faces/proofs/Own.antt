@@ -21,7 +21,7 @@ use Rattle.octree.proofs.Lawful.{isSplit}
 use Rattle.octree.proofs.Cells.{split-cell}
 use Rattle.cells.specs.Laid.{cellAt}
 use Rattle.records.specs.Keys.{keyOf}
-use Rattle.edges.specs.Noting.{keyUnit}
+use Rattle.edges.specs.Searching.{keyUnit}
 use Rattle.faces.specs.Descent.{placeWith, recordOf, Grown}
 use Rattle.faces.specs.Faces.{sideAt, octantBit, Across, FoundAcross, cornerMarks, ownPattern, facePattern}
 use Rattle.faces.proofs.Keys.{place-of-key}

@@ -22,11 +22,7 @@ pub record Octant (tc tk : List ℕ) (n i k : ℕ) : Type 0 where
   pub number : k < length tk / 10
   pub place : getD (placesOf tk) k origin ≡ octantOf tc n i
 
--- the table holds the corners of the cells of the records below m
-pub record OctantsTo (tc tk t : List ℕ) (m : ℕ) : Type 0 where
-  pub room : length t ≡ 16392
-  pub octant : (n i : ℕ) → n < m → i < 8 → Octant tc tk n i (getD t (8 * n + i) 0)
-
 -- the table holds the corners of all cells
-abbrev pub Octants : List ℕ → List ℕ → List ℕ → Type 0
-Octants tc tk t = OctantsTo tc tk t (length tc / 4)
+pub record Octants (tc tk t : List ℕ) : Type 0 where
+  pub room : length t ≡ 16392
+  pub octant : (n i : ℕ) → n < length tc / 4 → i < 8 → Octant tc tk n i (getD t (8 * n + i) 0)
