@@ -22,7 +22,7 @@ use Rattle.edges.proofs.Readings.{lowest-read}
 use Rattle.edges.proofs.TwinSlots.{slot-edge, slot-odd-edge}
 
 -- the corner at a record's place is the record
-record-corner : (t : List ℕ) → Bytes t → rising (placesOf t) ≡ true → (k : ℕ) → k < length t / 10 → cornerRecord t k ≡ cornerAt (cornersOf t)
+pub record-corner : (t : List ℕ) → Bytes t → rising (placesOf t) ≡ true → (k : ℕ) → k < length t / 10 → cornerRecord t k ≡ cornerAt (cornersOf t)
     (placeAt (placesOf t) k)
 record-corner t b up k h =
     let p = placeOf (cornerRecord t k) in

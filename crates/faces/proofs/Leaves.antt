@@ -9,16 +9,15 @@ use lib.ListN.{length, getD}
 use lib.Ieee.{Float}
 use Rattle.base.specs.Lists.{bit}
 use Rattle.base.specs.Grid.{Place, Axis, X, Y, axisOf, along, move, back, octants}
-use Rattle.rules.specs.Survey.{Cell, cell, cellsOf, cornersOf, cornerRecord, cornerAt, placeOf, leafOf, wet, wetAt, Survey}
+use Rattle.rules.specs.Survey.{Cell, cell, cellsOf, cornersOf, cornerRecord, cornerAt, leafOf, wet, wetAt, Survey}
 use Rattle.rules.specs.Steps.{face, sideLow, faceSteps, leafSteps}
 use Rattle.rules.specs.Outputs.{rising, surveyOf}
 use Rattle.rules.specs.declared.Corner.{Corner}
 use Rattle.rules.specs.declared.Leaf.{Leaf}
 use Rattle.octree.proofs.Lawful.{isCell}
-use Rattle.records.specs.Keys.{keyOf, placesOf, recordAt}
-use Rattle.records.proofs.Keys.{Bytes, record-short, get-place}
-use Rattle.records.proofs.Found.{corner-found}
-use Rattle.edges.proofs.Find.{found-self}
+use Rattle.records.specs.Keys.{placesOf}
+use Rattle.records.proofs.Keys.{Bytes}
+use Rattle.edges.proofs.Places.{record-corner}
 use Rattle.octree.proofs.Aligned.{cell-in-box}
 use Rattle.cells.specs.Laid.{octantKey, cellAt, Laid}
 use Rattle.octants.specs.Octants.{octantOf, Octant}
@@ -144,12 +143,7 @@ module _ (n : ℕ) (u : Bool) (low m c o h : ℕ) (el : low ≡ sideBit n u) (em
 -- the corner of a record is the one that the rules take at its place
 pub corner-is : (tk : List ℕ) → Bytes tk → rising (placesOf tk) ≡ true → (tc : List ℕ) (n i k : ℕ) (c : Corner) → Octant tc tk n i k → c ≡ cornerRecord tk k
     → c ≡ cornerAt (cornersOf tk) (octantOf tc n i)
-corner-is tk b up tc n i k c o q =
-    let p = placeOf (cornerRecord tk k) in
-    let e : recordAt tk (keyOf p) ≡ k = found-self tk b up k (o .number) in
-    let f : recordAt tk (keyOf p) < length tk / 10 = omega (arith, o .number) in
-    q ∙ ap (cornerRecord tk) (sym e) ∙ sym (corner-found tk b p (record-short tk b k (o .number)) f)
-    ∙ ap (cornerAt (cornersOf tk)) (sym (get-place tk k (o .number)) ∙ o .place)
+corner-is tk b up tc n i k c o q = q ∙ record-corner tk b up k (o .number) ∙ ap (cornerAt (cornersOf tk)) (o .place)
 
 -- a list of eight
 pub eight-marks : (f : Corner → ℕ) (d : Corner) (l : List Corner) → length l ≡ 8 → (a b c e g h i j : ℕ)
