@@ -1,5 +1,5 @@
 -- How often a number stands in a list of numbers.
---     equal, often                   1 for equal numbers, else 0; how often a number stands in a list
+--     equal                          1 for equal numbers, else 0
 --     take-out, sum-sub, sum-perm    a list that has each number at most (just) as often has at most (just) the other's sums
 --     any-has                        a sum that is not 0, of which only elements that pass a test have a share
 -- Assumes nothing.
@@ -13,17 +13,13 @@ use native.Mathlib.Decide.{ℕ-discrete}
 use lib.Dec.{eqb, eqb→eq, T}
 use lib.ListN.{length}
 use borrow.Author.Tests.{eq-eqb, ne-eqb}
-use Rattle.base.specs.Lists.{sum, any, count, bit}
+use Rattle.base.specs.Lists.{sum, any, count, bit, often}
 use Rattle.base.proofs.Lists.{In}
 use Rattle.base.proofs.Sums.{in-sum, times, times-in}
 
 -- 1 for equal numbers, else 0
 abbrev pub equal : ℕ → ℕ → ℕ
 equal a b = bit (eqb a b)
-
--- how often x stands in l
-abbrev pub often : ℕ → List ℕ → ℕ
-often x l = times eqb x l
 
 pub equal-eq : (a b : ℕ) → a ≡ b → equal a b ≡ 1
 equal-eq a b h = ap bit (eq-eqb a b h)

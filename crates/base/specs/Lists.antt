@@ -4,6 +4,7 @@
 use Prim.Native.Nat.{ℕ, zero, suc, _+_, _*_}
 use mathlib.Core.Bool.{Bool, true, false, _&&_, _||_, cond}
 use mathlib.Core.List.{List, [], _∷_, _++_}
+use lib.Dec.{eqb}
 use lib.ListN.{take, drop}
 
 module _ {A : Type 0} where
@@ -57,6 +58,10 @@ count i (suc n) = i ∷ count (suc i) n
 abbrev pub bit : Bool → ℕ
 bit true = 1
 bit false = 0
+
+-- how often x stands in a list
+abbrev pub often : ℕ → List ℕ → ℕ
+often x l = sum (λ y. bit (eqb x y)) l
 
 -- a little-endian number
 abbrev pub little : List ℕ → ℕ

@@ -17,8 +17,8 @@ use Rattle.rules.specs.Survey.{Cell, entries, cellsOf, cellCorners, cornerRecor
 use Rattle.rules.specs.Outputs.{entriesRight, rising, cornersRight}
 use Rattle.octree.proofs.Queue.{box}
 use Rattle.octree.proofs.Records.{cell-count}
-use Rattle.records.specs.Keys.{keyOf, placesOf, recordAt}
-use Rattle.records.proofs.Keys.{Bytes, Short, nowhere, get-place, length-places}
+use Rattle.records.specs.Keys.{keyOf, placesOf, recordAt, Short}
+use Rattle.records.proofs.Keys.{Bytes, nowhere, get-place, length-places}
 use Rattle.records.proofs.Search.{keyAt, keys-rise, is-at}
 use Rattle.records.proofs.Found.{record-at-place, listed-found, found-listed}
 use Rattle.cells.specs.Laid.{octantKey, cellAt, Entered, Laid}

@@ -23,8 +23,8 @@ use Rattle.octree.proofs.Cells.{→cell}
 use Rattle.octree.proofs.Tree.{octree-of}
 use Rattle.octree.proofs.Aligned.{cell-in-box}
 use Rattle.octree.proofs.Accepted.{Checked}
-use Rattle.records.specs.Keys.{keyOf, placesOf, recordAt}
-use Rattle.records.proofs.Keys.{Bytes, Short, nowhere, length-corners, get-corner}
+use Rattle.records.specs.Keys.{keyOf, placesOf, recordAt, Short}
+use Rattle.records.proofs.Keys.{Bytes, nowhere, length-corners, get-corner}
 use Rattle.records.proofs.Found.{record-at-place, listed-found, corner-found}
 use Rattle.cells.specs.Laid.{cellAt, tooDeep, Laid}
 use Rattle.octants.specs.Octants.{LookedUp, Octants}

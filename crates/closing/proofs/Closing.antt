@@ -13,7 +13,7 @@ use Rattle.rules.specs.Edges.{pointEdges}
 use Rattle.rules.specs.Steps.{Triangle, fan, trianglesBy, allTriangles}
 use Rattle.rules.specs.Outputs.{accepted, surveyOf}
 use Rattle.rules.specs.Closing.{Closed}
-use Rattle.octree.proofs.Lawful.{Lawful}
+use Rattle.octree.specs.Lawful.{Lawful}
 use Rattle.octree.proofs.Accepted.{lawful}
 use Rattle.octree.proofs.Points.{crossing-carries, others, alone, counted}
 use Rattle.geometry.proofs.Theorem.{face-laws}

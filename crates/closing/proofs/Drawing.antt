@@ -11,17 +11,17 @@ use native.Mathlib.Omega.{arith}
 use native.Mathlib.Decide.{ℕ-discrete}
 use lib.Dec.{T, eqb}
 use lib.ListN.{length}
-use Rattle.base.specs.Lists.{bit, sum, any}
+use Rattle.base.specs.Lists.{bit, sum, any, often}
 use Rattle.base.proofs.Lists.{In}
 use Rattle.base.proofs.Sums.{sum-same, sum-add, sum-collect, in-sum}
-use Rattle.base.proofs.Counts.{often, any-has}
+use Rattle.base.proofs.Counts.{any-has}
 use Rattle.rules.specs.Survey.{Cell, Survey}
 use Rattle.rules.specs.Edges.{CellEdge, pointEdges}
 use Rattle.rules.specs.Steps.{Triangle, Step, leafSteps, twinOf, met, onward, leafLoops, trianglesBy}
 use Rattle.rules.specs.Closing.{inOneFace, Carries, run, step, runs, meets}
 use Rattle.geometry.proofs.Interface.{leavesOf, tally, leave, enter, FaceLaws}
 use Rattle.closing.specs.Cutting.{Closes}
-use Rattle.closing.proofs.Walk.{Permutes}
+use Rattle.closing.specs.Permutes.{Permutes}
 use Rattle.closing.proofs.Loops.{loops-once}
 use Rattle.closing.proofs.Leaf.{leafTriangles, onward-permutes, step-from, leaf-others, leaf-twins, leaf-passes}
 

@@ -14,16 +14,16 @@ use native.Mathlib.Omega.{arith}
 use native.Mathlib.Decide.{ℕ-discrete}
 use lib.Dec.{eqb, T}
 use borrow.Author.Tests.{eqb-true, eqb-false, eq-eqb}
-use Rattle.base.specs.Lists.{bit, sum, any, collect, first, count}
+use Rattle.base.specs.Lists.{bit, sum, any, collect, first, count, often}
 use Rattle.base.proofs.Tests.{or→, bit-true}
 use Rattle.base.proofs.Lists.{In, any→in, in-keep, keep-in, count-in}
 use Rattle.base.proofs.Sums.{sum-le, sum-add, sum-one, sum-keep-le, in-sum, count-once}
-use Rattle.base.proofs.Counts.{equal, often, equal-eq, equal-ne, in-often, often-in, take-out, length-count, any-has}
+use Rattle.base.proofs.Counts.{equal, equal-eq, equal-ne, in-often, often-in, take-out, length-count, any-has}
 use Rattle.rules.specs.Steps.{Step, Triangle, met, onward, loops}
 use Rattle.rules.specs.Closing.{run, step, runs}
 use Rattle.geometry.proofs.Interface.{tally, leave, enter, Paired}
 use Rattle.closing.specs.Cutting.{turn, Closes}
-use Rattle.closing.proofs.Walk.{Permutes}
+use Rattle.closing.specs.Permutes.{Permutes}
 use Rattle.closing.proofs.Loops.{loops-balance}
 
 -- ---- the weight of one step

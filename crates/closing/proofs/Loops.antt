@@ -14,14 +14,15 @@ use native.Mathlib.Omega.{arith}
 use native.Mathlib.Decide.{ℕ-discrete, decLe}
 use lib.Dec.{leb}
 use borrow.Author.Tests.{leb-true, leb-false}
-use Rattle.base.specs.Lists.{bit, sum, all, collect}
+use Rattle.base.specs.Lists.{bit, sum, all, collect, often}
 use Rattle.base.proofs.Lists.{In, in-keep, in-map}
 use Rattle.base.proofs.Sums.{sum-keep, sum-map, sum-collect, sum-add, sum-same}
-use Rattle.base.proofs.Counts.{equal, often, equal-eq, equal-ne, in-often, sum-perm}
+use Rattle.base.proofs.Counts.{equal, equal-eq, equal-ne, in-often, sum-perm}
 use Rattle.rules.specs.Steps.{Triangle, until, loop, lowestFirst, loops}
 use Rattle.rules.specs.Closing.{run}
 use Rattle.closing.specs.Cutting.{turn, cycle, Closes}
-use Rattle.closing.proofs.Walk.{far, trail, far-next, far-far, trail-has, trail-only, trail-path, Stops, Permutes, far-in, trail-once, comes-back}
+use Rattle.closing.specs.Permutes.{Permutes}
+use Rattle.closing.proofs.Walk.{far, trail, far-next, far-far, trail-has, trail-only, trail-path, Stops, far-in, trail-once, comes-back}
 
 -- ---- the lowest of a list
 

@@ -14,7 +14,7 @@ use Rattle.rules.specs.Survey.{Survey}
 use Rattle.rules.specs.Edges.{CellEdge, upperEnd, odd, pointEdges}
 use Rattle.rules.specs.Steps.{Triangle, trianglesBy}
 use Rattle.rules.specs.Closing.{liesIn, inOneFace, isOdd, runs, Closed}
-use Rattle.octree.proofs.Lawful.{Lawful}
+use Rattle.octree.specs.Lawful.{Lawful}
 use Rattle.octree.proofs.Edges.{crossed→}
 use Rattle.octree.proofs.Points.{carried-crossed, alone}
 use Rattle.closing.specs.Cutting.{Closes}

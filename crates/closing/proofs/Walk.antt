@@ -1,6 +1,5 @@
 -- Walking along a step function from a point: what is passed, and that it comes back.
 --     far k x, trail m x            the point k steps on from x; the first m points from x on
---     Permutes n onward points      what is asked of the points of a leaf
 --     comes-back                    the loop through a point of the leaf is a trail that comes back to it, and not before
 -- Assumes nothing.
 use mathlib.Core.Path.{_≡_, refl, sym, ap, _∙_, subst}
@@ -14,11 +13,12 @@ use native.Mathlib.Decide.{ℕ-discrete}
 use lib.Dec.{eqb}
 use lib.ListN.{length}
 use borrow.Author.Tests.{eqb-true, eqb-false}
-use Rattle.base.specs.Lists.{sum}
+use Rattle.base.specs.Lists.{sum, often}
 use Rattle.base.proofs.Sums.{sum-one}
-use Rattle.base.proofs.Counts.{often, equal-eq, equal-ne, equal-le, sum-sub}
+use Rattle.base.proofs.Counts.{equal-eq, equal-ne, equal-le, sum-sub}
 use Rattle.rules.specs.Steps.{until}
 use Rattle.closing.specs.Cutting.{path}
+use Rattle.closing.specs.Permutes.{Permutes}
 
 module _ (onward : ℕ → ℕ) where
   abbrev pub far : ℕ → ℕ → ℕ
@@ -85,13 +85,6 @@ module _ (onward : ℕ → ℕ) where
           let later = more (s .size) (eqb-false x v e) (s .before) in
           inl (record { size = suc (s .size); is = ap (λ (r : List ℕ). x ∷ r) (s .is); back = s .back; before = later })
       go false e (inr h) = inr (more n (eqb-false x v e) h)
-
--- What is asked of the points of a leaf: each is listed once, there are at most n, `onward` leads from them to them, and to no point from two.
-pub record Permutes (n : ℕ) (onward : ℕ → ℕ) (points : List ℕ) : Type 0 where
-  pub once : (x : ℕ) → often x points ≤ 1
-  pub few : length points ≤ n
-  pub stays : (x : ℕ) → 1 ≤ often x points → 1 ≤ often (onward x) points
-  pub apart : (x y : ℕ) → 1 ≤ often x points → 1 ≤ often y points → onward x ≡ onward y → x ≡ y
 
 module _ (n : ℕ) (onward : ℕ → ℕ) (points : List ℕ) (per : Permutes n onward points) where
   pub far-in : (k x : ℕ) → 1 ≤ often x points → 1 ≤ often (far onward k x) points

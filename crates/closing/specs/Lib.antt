@@ -1,2 +1,3 @@
 pub mod Cutting
+pub mod Permutes
 pub mod Wrong

@@ -32,7 +32,7 @@ use Rattle.octree.proofs.Records.{cell-count, mark-of}
 use Rattle.geometry.proofs.Interface.{leavesOf, leave, enter, Paired, FaceLaws}
 use Rattle.geometry.proofs.Theorem.{face-laws}
 use Rattle.closing.specs.Cutting.{path, cycle}
-use Rattle.closing.proofs.Walk.{Permutes}
+use Rattle.closing.specs.Permutes.{Permutes}
 use Rattle.closing.proofs.Loops.{loops-steps}
 use Rattle.closing.proofs.Leaf.{onward-permutes}
 use Rattle.cells.specs.Laid.{cellAt}

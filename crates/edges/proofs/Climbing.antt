@@ -16,8 +16,8 @@ use Rattle.base.proofs.Places.{along-put, put-put, put-along}
 use Rattle.rules.specs.Survey.{cornerRecord, placeOf, Survey}
 use Rattle.rules.specs.Edges.{edge, isEdge, odd, carrier, pointOf}
 use Rattle.rules.specs.Steps.{isUpper, above, other, twin, numberElse}
-use Rattle.records.specs.Keys.{keyOf, placesOf}
-use Rattle.records.proofs.Keys.{Bytes, Short, record-short, get-place}
+use Rattle.records.specs.Keys.{keyOf, placesOf, Short}
+use Rattle.records.proofs.Keys.{Bytes, record-short, get-place}
 use Rattle.octree.proofs.Halves.{move-move}
 use Rattle.edges.specs.Tables.{placeAt}
 use Rattle.edges.specs.Searching.{keyUnit}

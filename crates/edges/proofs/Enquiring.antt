@@ -19,7 +19,7 @@ use Rattle.rules.specs.declared.Answer.{Answer}
 use Rattle.rules.specs.declared.Answer.the-variants.{Refused, Found}
 use Rattle.records.specs.Keys.{keyOf}
 use Rattle.cells.specs.Laid.{tooDeep}
-use Rattle.octree.proofs.Lawful.{Lawful}
+use Rattle.octree.specs.Lawful.{Lawful}
 use Rattle.octree.proofs.Accepted.{checked, lawful, numbered, first-append}
 use Rattle.octree.proofs.Edges.{edge→}
 use Rattle.octree.proofs.Aligned.{corner-place}

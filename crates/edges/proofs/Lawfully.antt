@@ -1,6 +1,6 @@
 -- The laws of a lawful survey that this crate's own laws rest on.
 use Rattle.rules.specs.Survey.{Survey}
-use Rattle.octree.proofs.Lawful.{Lawful}
+use Rattle.octree.specs.Lawful.{Lawful}
 use Rattle.octree.proofs.Edges.{lower-end, upper-end}
 use Rattle.octree.proofs.Aligned.{edge-level}
 use Rattle.octree.proofs.Halves.{halves}

@@ -15,7 +15,7 @@ use Rattle.rules.specs.Survey.{Cell, size}
 use Rattle.rules.specs.Edges.{CellEdge, edge, sameEdge, isEdge}
 use Rattle.rules.specs.Closing.{cellEdgesOn, allEdges}
 use Rattle.octree.proofs.Edges.{all-edges-in, →edge}
-use Rattle.octree.proofs.Lawful.{CornerOf}
+use Rattle.octree.specs.Lawful.{CornerOf}
 use Rattle.octree.proofs.Cells.{→cell}
 use Rattle.edges.specs.Tables.{cellEdges, edgesOf, startsAt, lowestIn, highestIn}
 

@@ -19,7 +19,7 @@ use Rattle.rules.specs.Survey.{cellsOf}
 use Rattle.rules.specs.Edges.{isEdge}
 use Rattle.rules.specs.Outputs.{rising, surveyRefusal, surveyOf}
 use Rattle.records.specs.Keys.{keyOf, placesOf}
-use Rattle.octree.proofs.Lawful.{Octree}
+use Rattle.octree.specs.Lawful.{Octree}
 use Rattle.octree.proofs.Tree.{octree-of}
 use Rattle.octree.proofs.Records.{cell-count}
 use Rattle.octree.proofs.Aligned.{corner-place, edge-level}

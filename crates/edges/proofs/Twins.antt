@@ -16,8 +16,8 @@ use Rattle.rules.specs.Survey.{cellsOf, cornersOf, wetAt, Survey}
 use Rattle.rules.specs.Edges.{edge, isEdge, divided, odd, pointOf}
 use Rattle.rules.specs.Steps.{isUpper, above, other, twin, numberElse}
 use Rattle.rules.specs.Outputs.{accepted, surveyOf}
-use Rattle.records.specs.Keys.{keyOf, placesOf, recordAt}
-use Rattle.records.proofs.Keys.{Bytes, Short, length-places}
+use Rattle.records.specs.Keys.{keyOf, placesOf, recordAt, Short}
+use Rattle.records.proofs.Keys.{Bytes, length-places}
 use Rattle.records.proofs.Found.{found-listed}
 use Rattle.octree.proofs.Halves.{move-move}
 use Rattle.edges.specs.Tables.{placeAt, highestLevel, Lowest, Highest, OddEdge, UpperEnd, Sought, Risen}

@@ -14,7 +14,7 @@ use Rattle.base.proofs.Tests.{→false, tests-equal, eq→eqb}
 use Rattle.rules.specs.Survey.{Cell, cell, cellsOf, entry, Survey}
 use Rattle.rules.specs.Steps.{Side, Face, face, Step, splitAcross, smallFaces, faceSteps}
 use Rattle.rules.specs.Outputs.{accepted, surveyOf}
-use Rattle.octree.proofs.Lawful.{isAt, isSplit}
+use Rattle.octree.specs.Lawful.{isAt, isSplit}
 use Rattle.octree.proofs.Halves.{move-move}
 use Rattle.octree.proofs.Records.{split-record, split-level, SplitRecord}
 use Rattle.octree.proofs.Queue.{box}

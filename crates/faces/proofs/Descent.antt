@@ -19,7 +19,7 @@ use Rattle.base.proofs.Sums.{in-sum}
 use Rattle.base.proofs.Octants.{Holds}
 use Rattle.base.proofs.Places.{place-equal, every-axis}
 use Rattle.rules.specs.Survey.{Cell, cell, cellsOf, entry}
-use Rattle.octree.proofs.Lawful.{isAt, isCell, isSplit, copies, Octree}
+use Rattle.octree.specs.Lawful.{isAt, isCell, isSplit, copies, Octree}
 use Rattle.octree.proofs.Cells.{at→, is-at, →cell, →split}
 use Rattle.octree.proofs.Queue.{box, unmarked}
 use Rattle.octree.proofs.Tree.{octree-of}

@@ -14,7 +14,7 @@ use Rattle.rules.specs.Survey.{Cell}
 use Rattle.rules.specs.Edges.{isEdge, odd}
 use Rattle.rules.specs.Steps.{Side, Face, face, faceCorner, faceEdge, Step, saddleCut, faceSteps}
 use Rattle.rules.specs.Outputs.{surveyOf}
-use Rattle.octree.proofs.Lawful.{isCell, CornerOf}
+use Rattle.octree.specs.Lawful.{isCell, CornerOf}
 use Rattle.octree.proofs.Edges.{→edge}
 use Rattle.faces.specs.Patterns.{stepFrom, patternOf, stepTo}
 use Rattle.faces.specs.Faces.{sideAt, facePattern, pointStep, rowSteps}

@@ -19,7 +19,7 @@ use Rattle.cells.proofs.Laying.{key-small}
 use Rattle.edges.specs.Searching.{keyUnit}
 use Rattle.rules.specs.Survey.{Cell}
 use Rattle.rules.specs.Steps.{Side, Face, faceCorner, faceEdge}
-use Rattle.octree.proofs.Lawful.{Octree}
+use Rattle.octree.specs.Lawful.{Octree}
 use Rattle.octree.proofs.Aligned.{corner-place}
 use Rattle.faces.specs.Descent.{placeWith, Outside}
 use Rattle.faces.specs.Faces.{sideAt, sideOf, octantBit, Room}

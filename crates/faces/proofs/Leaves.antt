@@ -14,7 +14,7 @@ use Rattle.rules.specs.Steps.{face, sideLow, faceSteps, leafSteps}
 use Rattle.rules.specs.Outputs.{rising, surveyOf}
 use Rattle.rules.specs.declared.Corner.{Corner}
 use Rattle.rules.specs.declared.Leaf.{Leaf}
-use Rattle.octree.proofs.Lawful.{isCell}
+use Rattle.octree.specs.Lawful.{isCell}
 use Rattle.records.specs.Keys.{placesOf}
 use Rattle.records.proofs.Keys.{Bytes}
 use Rattle.edges.proofs.Places.{record-corner}

@@ -14,7 +14,7 @@ use Rattle.base.proofs.Tests.{→true, bit-le}
 use Rattle.rules.specs.Survey.{cellsOf}
 use Rattle.rules.specs.Steps.{faceCorner}
 use Rattle.rules.specs.Outputs.{rising, surveyRefusal, accepted, surveyOf}
-use Rattle.octree.proofs.Lawful.{isCell, Octree}
+use Rattle.octree.specs.Lawful.{isCell, Octree}
 use Rattle.octree.proofs.Tree.{octree-of}
 use Rattle.octree.proofs.Accepted.{checked, accepted→}
 use Rattle.records.specs.Keys.{placesOf}

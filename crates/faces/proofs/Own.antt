@@ -17,7 +17,7 @@ use Rattle.base.proofs.Places.{same→, along-put, put-put, put-along}
 use Rattle.rules.specs.Survey.{cell, cellsOf, entry, cornersOf, wetAt}
 use Rattle.rules.specs.Outputs.{surveyOf}
 use Rattle.rules.specs.Steps.{face, sideLow, splitAcross}
-use Rattle.octree.proofs.Lawful.{isSplit}
+use Rattle.octree.specs.Lawful.{isSplit}
 use Rattle.octree.proofs.Cells.{split-cell}
 use Rattle.cells.specs.Laid.{cellAt}
 use Rattle.records.specs.Keys.{keyOf}

@@ -8,7 +8,7 @@ use Rattle.base.specs.Lists.{any, position, bit}
 use Rattle.base.specs.Grid.{Place, Axis, along}
 use Rattle.rules.specs.Survey.{Cell, entries, cellsOf}
 use Rattle.rules.specs.Outputs.{entriesRight}
-use Rattle.octree.proofs.Lawful.{isAt}
+use Rattle.octree.specs.Lawful.{isAt}
 
 -- the place with a key: a key is x + 65,536 y + 65,536 ^ 2 z
 unfoldable pub placeWith : ℕ → Place

@@ -7,7 +7,7 @@ use Rattle.base.specs.Grid.{origin}
 use Rattle.rules.specs.Survey.{Survey}
 use Rattle.rules.specs.Steps.{Step, leafSteps}
 use Rattle.base.proofs.Sums.{sum-same}
-use Rattle.octree.proofs.Lawful.{isSplit, Lawful}
+use Rattle.octree.specs.Lawful.{isSplit, Lawful}
 use Rattle.octree.proofs.Leaves.{treeSum, leaf-sum}
 use Rattle.geometry.proofs.Interface.{leavesOf}
 use Rattle.geometry.proofs.Telescope.{telescope}

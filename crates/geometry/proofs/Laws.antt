@@ -16,7 +16,7 @@ use Rattle.rules.specs.Closing.{inOneFace, Carries, step}
 use Rattle.base.proofs.Tests.{below}
 use Rattle.base.proofs.Lists.{In}
 use Rattle.base.proofs.Sums.{sum-add}
-use Rattle.octree.proofs.Lawful.{isCell, Lawful}
+use Rattle.octree.specs.Lawful.{isCell, Lawful}
 use Rattle.geometry.proofs.Interface.{leavesOf, tally, leave, enter, Paired}
 use Rattle.geometry.proofs.Square.{drawn, fore, back, left-is, entered-is}
 use Rattle.geometry.proofs.Closed.{closed}

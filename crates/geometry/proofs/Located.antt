@@ -14,7 +14,7 @@ use Rattle.base.specs.Grid.{Place, Axis, X, Y, Z, next, along, axisNumber}
 use Rattle.rules.specs.Survey.{Survey}
 use Rattle.rules.specs.Edges.{CellEdge, upperEnd, pointEdges}
 use Rattle.rules.specs.Steps.{edgeOf}
-use Rattle.octree.proofs.Lawful.{isCell, Lawful}
+use Rattle.octree.specs.Lawful.{isCell, Lawful}
 use Rattle.geometry.proofs.Grid.{At, place, move-across, turn-first, turn-second, along-across, along-first, along-second, place-of, total, views, seen}
 use Rattle.geometry.proofs.Face.{rises}
 use Rattle.geometry.proofs.Square.{pointAt, fore, back, drawn, left-is, entered-is}

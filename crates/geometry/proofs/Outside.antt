@@ -14,7 +14,7 @@ use Rattle.base.proofs.Tests.{and→, →and, or-left, or-right, →false, eith
 use Rattle.base.proofs.Lists.{in→any}
 use Rattle.base.proofs.Sums.{sum-le}
 use Rattle.base.proofs.Places.{each-axis}
-use Rattle.octree.proofs.Lawful.{isCell, Lawful}
+use Rattle.octree.specs.Lawful.{isCell, Lawful}
 use Rattle.geometry.proofs.Grid.{place, along-across, along-move-first, along-move-second, total, seen}
 use Rattle.geometry.proofs.Square.{turned, drawn, squareSteps, squarePoint}
 use Rattle.geometry.proofs.Area.{total-le, total-none}

@@ -14,7 +14,7 @@ use Rattle.rules.specs.Edges.{edge, pointEdges, numberOf, carrier}
 use Rattle.rules.specs.Steps.{Step, leafSteps, edgeOf, twinOf}
 use Rattle.rules.specs.Closing.{step}
 use Rattle.base.proofs.Lists.{In}
-use Rattle.octree.proofs.Lawful.{isCell, isSplit, Lawful}
+use Rattle.octree.specs.Lawful.{isCell, isSplit, Lawful}
 use Rattle.octree.proofs.Points.{Crossed}
 use Rattle.geometry.proofs.Interface.{leavesOf, enter, Paired, Passage}
 use Rattle.geometry.proofs.Grid.{place, half, far, turn-first, turn-second, along-second, place-of, Ends, half-ends}

@@ -15,7 +15,7 @@ use Rattle.rules.specs.Steps.{edgeOf, numberElse, twinOf}
 use Rattle.rules.specs.Closing.{Carries}
 use Rattle.base.proofs.Tests.{true→, false→, →true, tests-equal, eq→eqb}
 use Rattle.base.proofs.Lists.{get-any, in-get}
-use Rattle.octree.proofs.Lawful.{Lawful}
+use Rattle.octree.specs.Lawful.{Lawful}
 use Rattle.octree.proofs.Edges.{crossed→, undivided→}
 use Rattle.octree.proofs.Points.{Crossed, point-crossed, crossed-carries, number-at}
 use Rattle.octree.proofs.Halves.{carrier-crossed}

@@ -15,7 +15,7 @@ use Rattle.rules.specs.Steps.{upperSide, lowerSide, splitAcross}
 use Rattle.base.proofs.Tests.{and→, or→, or-left, or-right, true→, →true, not-both, tests-equal, eq→eqb}
 use Rattle.base.proofs.Lists.{any→in}
 use Rattle.base.proofs.Places.{every-axis, same→, along-put}
-use Rattle.octree.proofs.Lawful.{isCell, isSplit, CornerOf, Octree}
+use Rattle.octree.specs.Lawful.{isCell, isSplit, CornerOf, Octree}
 use Rattle.octree.proofs.Cells.{split-cell}
 use Rattle.octree.proofs.Edges.{edge→, →edge}
 use Rattle.geometry.proofs.Grid.{At, place, half, turn-first, turn-second, along-across, along-first, along-second, place-of, Ends, half-ends}

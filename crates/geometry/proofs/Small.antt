@@ -16,7 +16,7 @@ use Rattle.base.proofs.Tests.{false→, either, not-both, below}
 use Rattle.base.proofs.Lists.{In, in-keep, keep-in}
 use Rattle.base.proofs.Sums.{sum-append, sum-collect}
 use Rattle.base.proofs.Octants.{Holds}
-use Rattle.octree.proofs.Lawful.{isCell, isSplit, CornerOf, Lawful}
+use Rattle.octree.specs.Lawful.{isCell, isSplit, CornerOf, Lawful}
 use Rattle.octree.proofs.Cells.{cell→, →cell, split-cell}
 use Rattle.octree.proofs.Covers.{holds-self}
 use Rattle.octree.proofs.Aligned.{one-cube, cell-aligned}

@@ -11,7 +11,7 @@ use Rattle.rules.specs.Edges.{CellEdge, edge, isEdge, divided, undivided, odd, 
 use Rattle.rules.specs.Steps.{isUpper, above, other, twin}
 use Rattle.base.proofs.Tests.{or-left, or-right, true→, →true}
 use Rattle.base.proofs.Places.{along-put}
-use Rattle.octree.proofs.Lawful.{Lawful}
+use Rattle.octree.specs.Lawful.{Lawful}
 use Rattle.octree.proofs.Aligned.{Multiple, edge-aligned, edge-level}
 use Rattle.octree.proofs.Halves.{halves, move-move}
 use Rattle.geometry.proofs.Grid.{along-move-first, along-move-second}

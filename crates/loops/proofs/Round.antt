@@ -14,9 +14,9 @@ use lib.Dec.{leb}
 use lib.ListN.{length, getD, set}
 use lib.Seq.{sets, length-sets}
 use borrow.Author.Tests.{le-leb}
-use Rattle.base.specs.Lists.{bit, all, sum, collect}
+use Rattle.base.specs.Lists.{bit, all, sum, collect, often}
 use Rattle.base.proofs.Sums.{sum-keep, sum-map}
-use Rattle.base.proofs.Counts.{often, equal-eq, equal-ne, sum-sub}
+use Rattle.base.proofs.Counts.{equal-eq, equal-ne, sum-sub}
 use Rattle.rules.specs.Steps.{Triangle, met, until, loop, lowestFirst, fanFrom, fan}
 use Rattle.rules.specs.Outputs.{numbers}
 use Rattle.closing.proofs.Walk.{far, trail, far-next, trail-has, Stops, comes-back}

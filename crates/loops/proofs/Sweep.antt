@@ -15,10 +15,10 @@ use native.Mathlib.Decide.{ℕ-discrete}
 use lib.Dec.{eqb}
 use lib.ListN.{length, getD, length-append}
 use lib.Seq.{sets}
-use Rattle.base.specs.Lists.{bit, first, keep, collect, count}
+use Rattle.base.specs.Lists.{bit, first, keep, collect, count, often}
 use Rattle.base.proofs.Tests.{→true, true→}
 use Rattle.base.proofs.Lists.{in-keep, keep-in, count-in}
-use Rattle.base.proofs.Counts.{often, in-often, often-in, length-count}
+use Rattle.base.proofs.Counts.{in-often, often-in, length-count}
 use Rattle.rules.specs.Steps.{Step, Triangle, met, until, loop, lowestFirst, loops, fanFrom, fan}
 use Rattle.rules.specs.Outputs.{numbers}
 use Rattle.trace.specs.Trace.{Trace, trace, Traced, meets, endFrom}

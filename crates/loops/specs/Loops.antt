@@ -9,7 +9,7 @@ use Rattle.base.specs.Lists.{collect}
 use Rattle.rules.specs.Steps.{Step, Triangle, met, onward, loops, fan}
 use Rattle.rules.specs.Outputs.{numbers}
 use Rattle.trace.specs.Trace.{Trace, Traced, meets}
-use Rattle.closing.proofs.Walk.{Permutes}
+use Rattle.closing.specs.Permutes.{Permutes}
 
 -- A leaf over a table of twins: how many points the survey has, the leaf's face steps, the twin of each point; the way onward from a point
 -- permutes the points that the steps meet.

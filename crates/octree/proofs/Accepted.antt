@@ -16,7 +16,7 @@ use Rattle.base.proofs.Tests.{and→, either, not-both, eq→eqb, →true, →f
 use Rattle.base.proofs.Lists.{In, any→in, in→any, all→in}
 use Rattle.base.proofs.Places.{same→}
 use Rattle.base.proofs.Octants.{octant→, →octant}
-use Rattle.octree.proofs.Lawful.{isCell, CornerOf, Lawful}
+use Rattle.octree.specs.Lawful.{isCell, CornerOf, Lawful}
 use Rattle.octree.proofs.Cells.{cell→, →cell}
 use Rattle.octree.proofs.Tree.{octree-of}
 

@@ -13,7 +13,7 @@ use Rattle.rules.specs.Survey.{Cell}
 use Rattle.rules.specs.Edges.{isEdge}
 use Rattle.base.proofs.Places.{place-equal}
 use Rattle.base.proofs.Octants.{Holds}
-use Rattle.octree.proofs.Lawful.{isCell, CornerOf, Octree}
+use Rattle.octree.specs.Lawful.{isCell, CornerOf, Octree}
 use Rattle.octree.proofs.Cells.{split-cell}
 use Rattle.octree.proofs.Edges.{edge→}
 

@@ -9,7 +9,7 @@ use Rattle.rules.specs.Survey.{Cell, cell}
 use Rattle.base.proofs.Tests.{and→, →and, true→, eq→eqb}
 use Rattle.base.proofs.Lists.{In, any→in, in→any}
 use Rattle.base.proofs.Places.{same→, same-refl}
-use Rattle.octree.proofs.Lawful.{isAt, isCell, isSplit}
+use Rattle.octree.specs.Lawful.{isAt, isCell, isSplit}
 
 pub at→ : (l : ℕ) (p : Place) (c : Cell) → T (isAt l p c) → (l ≡ c .level) × (p ≡ c .low)
 at→ l p c t = let u = and→ (eqb l (c .level)) (same p (c .low)) t in (eqb→eq l (c .level) (u .0), same→ p (c .low) (u .1))

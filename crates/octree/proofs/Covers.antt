@@ -14,7 +14,7 @@ use Rattle.rules.specs.Survey.{Cell}
 use Rattle.base.proofs.Tests.{true→, false→, either, below, bit-le}
 use Rattle.base.proofs.Sums.{sum-same}
 use Rattle.base.proofs.Octants.{Holds, holds, octants-hold, holds-one, →holds, holds→}
-use Rattle.octree.proofs.Lawful.{isAt}
+use Rattle.octree.specs.Lawful.{isAt}
 use Rattle.octree.proofs.Cells.{at→}
 
 -- a cube holds its lowest corner

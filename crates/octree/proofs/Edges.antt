@@ -15,7 +15,7 @@ use Rattle.base.proofs.Tests.{and→, →and, or→, or-left, or-right, eq→eq
 use Rattle.base.proofs.Lists.{In, any→in, in→any, map-in, collect-in, distinct-in}
 use Rattle.base.proofs.Sums.{times, distinct-once}
 use Rattle.base.proofs.Places.{every-axis, each-axis, put-one, same→, same-refl, axis-equal, square, →square}
-use Rattle.octree.proofs.Lawful.{isCell, CornerOf, Lawful}
+use Rattle.octree.specs.Lawful.{isCell, CornerOf, Lawful}
 use Rattle.octree.proofs.Cells.{cell→, →cell}
 
 -- ---- equal edges

@@ -13,7 +13,7 @@ use Rattle.rules.specs.Survey.{Cell, Survey}
 use Rattle.rules.specs.Edges.{edge, isEdge, divided, undivided, odd, carrier}
 use Rattle.base.proofs.Tests.{→and, or→}
 use Rattle.base.proofs.Places.{along-put, put-both, put-one, put-put, put-along}
-use Rattle.octree.proofs.Lawful.{isSplit, CornerOf, Octree}
+use Rattle.octree.specs.Lawful.{isSplit, CornerOf, Octree}
 use Rattle.octree.proofs.Cells.{split-cell}
 use Rattle.octree.proofs.Edges.{edge→, →edge, →crossed}
 use Rattle.octree.proofs.Aligned.{Multiple, no-middle, cell-aligned, edge-aligned, edge-level}

@@ -14,7 +14,7 @@ use Rattle.base.proofs.Tests.{tests-equal, not-both, either, bit-true}
 use Rattle.base.proofs.Lists.{In}
 use Rattle.base.proofs.Sums.{two-in-sum}
 use Rattle.base.proofs.Octants.{Holds}
-use Rattle.octree.proofs.Lawful.{isAt, isCell, isSplit, copies, Octree}
+use Rattle.octree.specs.Lawful.{isAt, isCell, isSplit, copies, Octree}
 use Rattle.octree.proofs.Cells.{is-at, split→, →split, split-cell}
 use Rattle.octree.proofs.Covers.{holds-self}
 use Rattle.octree.proofs.Aligned.{one-cube, cell-aligned}

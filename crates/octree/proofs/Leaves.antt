@@ -15,7 +15,7 @@ use Rattle.base.proofs.Lists.{In}
 use Rattle.base.proofs.Sums.{sum-zero, sum-times, sum-same, sum-swap, sum-keep, in-sum}
 use Rattle.base.proofs.Places.{every-axis}
 use Rattle.base.proofs.Octants.{octant→, Holds}
-use Rattle.octree.proofs.Lawful.{isAt, isCell, isSplit, copies, Octree}
+use Rattle.octree.specs.Lawful.{isAt, isCell, isSplit, copies, Octree}
 use Rattle.octree.proofs.Cells.{at→, →at, is-at, cell→, →cell, split-cell}
 use Rattle.octree.proofs.Covers.{holds-self, covers, covers-no, →covers, covers-none, octants-cover}
 use Rattle.octree.proofs.Aligned.{Aligned, one-cube, cell-aligned, cell-in-box}

@@ -10,7 +10,7 @@ use Rattle.base.specs.Grid.{Place, Axis, along, move}
 use Rattle.rules.specs.Survey.{Cell}
 use Rattle.rules.specs.Edges.{isEdge, divided, undivided}
 use Rattle.base.proofs.Tests.{or-left, below}
-use Rattle.octree.proofs.Lawful.{isCell, isSplit, CornerOf, Octree}
+use Rattle.octree.specs.Lawful.{isCell, isSplit, CornerOf, Octree}
 use Rattle.octree.proofs.Cells.{split-cell}
 use Rattle.octree.proofs.Edges.{edge→, →edge, undivided→}
 use Rattle.octree.proofs.Aligned.{Multiple, Aligned, multiple-down, no-middle, cell-aligned, edge-aligned, edge-level}

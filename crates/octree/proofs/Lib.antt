@@ -1,4 +1,3 @@
-pub mod Lawful
 pub mod Cells
 pub mod Queue
 pub mod Covers

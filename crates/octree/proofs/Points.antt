@@ -16,7 +16,7 @@ use Rattle.base.proofs.Tests.{and→, →and, eq→eqb}
 use Rattle.base.proofs.Lists.{In, any→in, in→any, in-get, get-any, position-of, in-keep, keep-in, in-map, map-in, in-collect, collect-in, count-in}
 use Rattle.base.proofs.Sums.{times, sum-keep-le, position-once, length-le, collect-once, map-once, count-once}
 use Rattle.base.proofs.Places.{same→, same-refl, each-axis, axis-once}
-use Rattle.octree.proofs.Lawful.{Lawful}
+use Rattle.octree.specs.Lawful.{Lawful}
 use Rattle.octree.proofs.Edges.{same-edge→, same-edge, edge→, lower-end, undivided→, crossed→, →crossed, all-edges-in, all-edges-once}
 use Rattle.octree.proofs.Rising.{rising-once}
 

@@ -14,7 +14,7 @@ use Rattle.base.proofs.Tests.{→and, false→, below, eq→eqb, bit-le}
 use Rattle.base.proofs.Lists.{In, in-append, in→any, in-map, map-in, in-collect, collect-in}
 use Rattle.base.proofs.Sums.{sum-add, sum-zero, sum-le, sum-same, sum-map, sum-collect}
 use Rattle.base.proofs.Octants.{octant→, →octant}
-use Rattle.octree.proofs.Lawful.{isAt, isCell, isSplit, copies, CornerOf, Octree}
+use Rattle.octree.specs.Lawful.{isAt, isCell, isSplit, copies, CornerOf, Octree}
 use Rattle.octree.proofs.Cells.{at→, cell→, →cell, split→, →split}
 use Rattle.octree.proofs.Covers.{covers, covers-no, covers-one, self-covers, octants-cover}
 use Rattle.octree.proofs.Queue.{box, unmarked, kids, cells-in-order}

@@ -20,7 +20,7 @@ use Rattle.rules.specs.Edges.{CellEdge, upperEnd, isEdge, spotOn, OnEdge}
 use Rattle.rules.specs.Outputs.{inRange, surveyOf, accepted}
 use Rattle.rules.specs.Closing.{Carries}
 use Rattle.rules.specs.declared.Corner.{Corner}
-use Rattle.octree.proofs.Lawful.{CornerOf, Lawful}
+use Rattle.octree.specs.Lawful.{CornerOf, Lawful}
 use Rattle.octree.proofs.Accepted.{checked, accepted→, lawful}
 use Rattle.octree.proofs.Edges.{edge→, undivided→, crossed→}
 use Rattle.octree.proofs.Aligned.{edge-in-box}

@@ -7,7 +7,6 @@ ghost use Rattle.rules.specs.Survey.{cornerRecord, placeOf};
 ghost use Rattle.rules.specs.Outputs.{rising};
 ghost use Rattle.records.specs.Keys.{keyOf, placesOf, recordAt};
 ghost use Rattle.reader.specs.Ordered.{Ordered};
-use rules::Corner;
 
 // The lent bytes of a corner table and the number of its records.
 pub struct Reader<'a> {
@@ -53,7 +52,7 @@ fn narrowed(corners: &[u8], count: usize, key: u64, low: usize, size: usize) -> 
 }
 
 // The number of the corner record at the place with this key, by quartering; `count` where there is none.
-pub fn find_in(corners: &[u8], count: usize, key: u64) -> usize
+fn find_in(corners: &[u8], count: usize, key: u64) -> usize
     requires { ⌜ Ordered (now corners) count ⌝ }
     ensures { λ r. ⌜ r ≡ recordAt (now (corners .entry)) key ⌝ }
 {
@@ -87,14 +86,6 @@ pub fn look_up<'a>(r: Reader<'a>, key: u64) -> usize
     ensures { λ s. ⌜ s ≡ recordAt (now (r .entry .bytes)) key ⌝ }
 {
     find_in(r.bytes, r.count, key)
-}
-
-// Corner record `n`, taken up by the reader.
-pub fn take_up<'a>(r: Reader<'a>, n: usize) -> Corner
-    requires { ⌜ 10 * n + 10 ≤ length (now (r .bytes)) ⌝ }
-    ensures { λ c. ⌜ c ≡ cornerRecord (now (r .entry .bytes)) n ⌝ }
-{
-    records::corner_at(r.bytes, n)
 }
 
 // The look-up in plain bytes, through a reader laid over them: whoever calls this one needs no walk by hand.

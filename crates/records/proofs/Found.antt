@@ -13,8 +13,8 @@ use Rattle.base.specs.Grid.{Place, same}
 use Rattle.base.proofs.Below.{position-same, first-position, any-position, position-any}
 use Rattle.rules.specs.Survey.{cornerRecord, cornersOf, placeOf, cornerAt}
 use Rattle.rules.specs.declared.Corner.{Corner}
-use Rattle.records.specs.Keys.{keyOf, placesOf, recordAt}
-use Rattle.records.proofs.Keys.{Bytes, Short, nowhere, same-key, record-short, get-corner, get-place, length-places}
+use Rattle.records.specs.Keys.{keyOf, placesOf, recordAt, Short}
+use Rattle.records.proofs.Keys.{Bytes, nowhere, same-key, record-short, get-corner, get-place, length-places}
 
 position-map : (f : Place → Bool) (l : List Corner) (n : ℕ) → position f n (map placeOf l) ≡ position (λ c. f (placeOf c)) n l
 position-map f [] n = refl

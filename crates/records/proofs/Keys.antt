@@ -16,13 +16,8 @@ use Rattle.base.proofs.Below.{get-table, length-table}
 use Rattle.rules.specs.Survey.{cornerRecord, cornersOf, placeOf}
 use Rattle.rules.specs.Outputs.{before}
 use Rattle.rules.specs.declared.Corner.{Corner}
-use Rattle.records.specs.Keys.{keyOf, placesOf}
+use Rattle.records.specs.Keys.{keyOf, placesOf, Short}
 use Rattle.records.proofs.Bytes.{part, little-two}
-
--- two coordinates fit 16 bits, as those of a record do
-pub record Short (p : Place) : Type 0 where
-  pub x-fits : p .x < 65536
-  pub y-fits : p .y < 65536
 
 module _ (p q : Place) (hp : Short p) (hq : Short q) where
   -- the order of records is the order of keys

@@ -1,5 +1,5 @@
 -- A place as one number, its key: the corner table rises by z, then y, then x, and so do the keys.
-use Prim.Native.Nat.{ℕ, _+_, _*_}
+use Prim.Native.Nat.{ℕ, _+_, _*_, _<_}
 use mathlib.Core.List.{List, map}
 use lib.Dec.{eqb}
 use Rattle.base.specs.Lists.{position}
@@ -8,6 +8,11 @@ use Rattle.rules.specs.Survey.{cornersOf, placeOf}
 
 unfoldable pub keyOf : Place → ℕ
 keyOf p = p .x + 65536 * p .y + 4294967296 * p .z
+
+-- two coordinates fit 16 bits, as those of a record do
+pub record Short (p : Place) : Type 0 where
+  pub x-fits : p .x < 65536
+  pub y-fits : p .y < 65536
 
 abbrev pub placesOf : List ℕ → List Place
 placesOf t = map placeOf (cornersOf t)

@@ -1,7 +1,8 @@
 -- Laws of the trace of a leaf: a fresh one holds no step; recording one step; several calls in a row; what a step from a point says.
 --     fresh          the tables as they are made
 --     one-more       the stores of one step
---     adds-none, adds-more, recorded-more     no call, and one call after another
+--     recorded-none, recorded-more     no call, and one call after another
+--     traced-more    the tables hold what they held and the steps recorded
 --     left-or-not    a step leaves v, and the table has its end; or none does
 -- Assumes nothing.
 use mathlib.Core.Path.{_≡_, refl, sym, ap, _∙_, subst}
@@ -17,7 +18,7 @@ use lib.Seq.{getD-set-same, getD-set-other}
 use borrow.Author.Tests.{eq-eqb, ne-eqb}
 use Rattle.base.specs.Lists.{any, first, bit}
 use Rattle.rules.specs.Steps.{Step}
-use Rattle.trace.specs.Trace.{Trace, trace, Sized, Traced, meets, endFrom, leaveAt, Adds, Recorded}
+use Rattle.trace.specs.Trace.{Trace, trace, Sized, Traced, meets, endFrom, leaveAt, recordOne, recorded, Recorded}
 
 -- ---- a list with one element more
 
@@ -171,38 +172,63 @@ fresh = record {
   block = λ v l e. absurd (omega (arith, getD-replicate {A = ℕ} 14616 v 0 0 l));
 }
 
-pub adds-none : (t : Trace) → Adds [] t t
-adds-none t ss h = rw append-nil h
-
-pub adds-more : (p q : List Step) (t u v : Trace) → Adds p t u → Adds q u v → Adds (p ++ q) t v
-adds-more p q t u v f g ss h = rw (← append-assoc ss p q) (g (ss ++ p) (f ss h))
-
 pub recorded-none : (t : Trace) → Sized t → Recorded [] t t
-recorded-none t s = record { sized = s; adds = adds-none t }
+recorded-none t z = record { is = refl; sized = z; within = λ v e. absurd (false≢true e) }
+
+after-both : (p q : List Step) (t : Trace) → recorded (p ++ q) t ≡ recorded q (recorded p t)
+after-both [] q t = refl
+after-both (s ∷ p) q t = after-both p q (recordOne s t)
+
+either-meets : (p q : List Step) (v : ℕ) → meets (p ++ q) v ≡ meets p v || meets q v
+either-meets [] q v = refl
+either-meets (s ∷ p) q v =
+    ap (λ (r : Bool). (eqb v (s .0) || eqb v (s .1)) || r) (either-meets p q v) ∙ sym (or-or (eqb v (s .0) || eqb v (s .1)) (meets p v) (meets q v))
 
 pub recorded-more : (p q : List Step) (t u v : Trace) → Recorded p t u → Recorded q u v → Recorded (p ++ q) t v
-recorded-more p q t u v f g = record { sized = g .sized; adds = adds-more p q t u v (f .adds) (g .adds) }
+recorded-more p q t u v f g = record {
+  is = g .is ∙ ap (recorded q) (f .is) ∙ sym (after-both p q t);
+  sized = g .sized;
+  within = λ x e. inside x (meets p x) refl (sym (either-meets p q x) ∙ e);
+}
+  where
+    inside : (x : ℕ) (b : Bool) → meets p x ≡ b → meets p x || meets q x ≡ true → x < 14616
+    inside x true m e = f .within x m
+    inside x false m e = g .within x (sym (ap (λ (r : Bool). r || meets q x) m) ∙ e)
+
+-- what held some steps now holds these after them
+pub traced-more : (new ss : List Step) (t u : Trace) → Recorded new t u → Traced ss t → Traced (ss ++ new) u
+traced-more new ss t u r h = subst (Traced (ss ++ new)) (sym (r .is)) (go new ss t (r .within) h)
+  where
+    go : (new ss : List Step) (t : Trace) → Within new → Traced ss t → Traced (ss ++ new) (recorded new t)
+    go [] ss t w h = rw append-nil h
+    go (s ∷ new) ss t w h =
+        let left : s .0 < 14616 = w (s .0) (rw (eq-eqb (s .0) (s .0) refl)) in
+        let right : s .1 < 14616 = w (s .1) (rw (eq-eqb (s .1) (s .1) refl, or-true (eqb (s .1) (s .0)))) in
+        rw (← append-assoc ss (s ∷ []) new) (go new (ss ++ s ∷ []) (recordOne s t) (within-rest s new w) (one-more ss t (s .0) (s .1) left right h))
 
 -- what the stores of one step have done, the two points marked one after the other
 pub one-recorded : (t u : Trace) (marks blocks : List ℕ) (a b : ℕ) → Sized t → (a < 14616) × (b < 14616) → u .nexts ≡ leaveAt (t .nexts) a b
     → (marks ≡ set (t .marks) a 1) × (blocks ≡ set (t .blocks) (a / 128) 1) → (u .marks ≡ set marks b 1) × (u .blocks ≡ set blocks (b / 128) 1)
     → Recorded ((a, b) ∷ []) t u
 one-recorded t u marks blocks a b s l n m k = record {
+  is = λ i. record {
+    nexts = n i;
+    marks = (k .0 ∙ ap (λ (l : List ℕ). set l b 1) (m .0)) i;
+    blocks = (k .1 ∙ ap (λ (l : List ℕ). set l (b / 128) 1) (m .1)) i;
+  };
   sized = record {
     points = ap length n ∙ kept (eqb (getD (t .nexts) a 0) 65535);
     same = rw (k .0, length-set marks b 1, m .0, length-set (t .marks) a 1) (s .same);
     groups = rw (k .1, length-set blocks (b / 128) 1, m .1, length-set (t .blocks) (a / 128) 1) (s .groups);
   };
-  adds = λ ss h. subst (Traced (ss ++ (a, b) ∷ [])) (sym whole) (one-more ss t a b (l .0) (l .1) h);
+  within = λ v e. inside v (ℕ-discrete v a) (ℕ-discrete v b) e;
 }
   where
     kept : (u : Bool) → length (cond u (set (t .nexts) a b) (t .nexts)) ≡ 14616
     kept true = length-set (t .nexts) a b ∙ s .points
     kept false = s .points
 
-    whole : u ≡ trace (leaveAt (t .nexts) a b) (set (set (t .marks) a 1) b 1) (set (set (t .blocks) (a / 128) 1) (b / 128) 1)
-    whole = λ i. record {
-      nexts = n i;
-      marks = (k .0 ∙ ap (λ (l : List ℕ). set l b 1) (m .0)) i;
-      blocks = (k .1 ∙ ap (λ (l : List ℕ). set l (b / 128) 1) (m .1)) i;
-    }
+    inside : (v : ℕ) → Dec (v ≡ a) → Dec (v ≡ b) → meets ((a, b) ∷ []) v ≡ true → v < 14616
+    inside v (yes p) q e = omega (arith, l .0)
+    inside v (no p) (yes q) e = omega (arith, l .1)
+    inside v (no p) (no q) e = absurd (false≢true (sym (rw (ne-eqb v a p, ne-eqb v b q) refl) ∙ e))

@@ -3,7 +3,7 @@
 -- Assumes nothing: these are definitions.
 use mathlib.Core.Path.{_≡_}
 use mathlib.Core.Bool.{Bool, true, _||_, cond}
-use mathlib.Core.List.{List, _++_}
+use mathlib.Core.List.{List, [], _∷_}
 use Prim.Native.Nat.{ℕ, _<_, _/_}
 use lib.Dec.{eqb}
 use lib.ListN.{length, getD, set}
@@ -42,17 +42,24 @@ pub record Traced (ss : List Step) (t : Trace) : Type 0 where
   pub mark : (v : ℕ) → v < 14616 → getD (t .marks) v 0 ≡ bit (meets ss v)
   pub block : (v : ℕ) → v < 14616 → getD (t .marks) v 0 ≡ 1 → getD (t .blocks) (v / 128) 0 ≡ 1
 
--- what held some steps now holds these after them
-abbrev pub Adds : List Step → Trace → Trace → Type 0
-Adds new before after = (ss : List Step) → Traced ss before → Traced (ss ++ new) after
-
--- what a call has done that records steps
-pub record Recorded (new : List Step) (before after : Trace) : Type 0 where
-  pub sized : Sized after
-  pub adds : Adds new before after
-
--- ---- the stores of one step
+-- ---- recording
 
 -- the end of a step from a, which counts only where none left a before
 abbrev pub leaveAt : List ℕ → ℕ → ℕ → List ℕ
 leaveAt nexts a b = cond (eqb (getD nexts a 0) 65535) (set nexts a b) nexts
+
+-- the tables with one step more: its end is kept at the point that it leaves, and both its points are marked, one after the other
+abbrev pub recordOne : Step → Trace → Trace
+recordOne s t =
+    trace (leaveAt (t .nexts) (s .0) (s .1)) (set (set (t .marks) (s .0) 1) (s .1) 1) (set (set (t .blocks) (s .0 / 128) 1) (s .1 / 128) 1)
+
+-- the tables with steps recorded one after the other
+abbrev pub recorded : List Step → Trace → Trace
+recorded [] t = t
+recorded (s ∷ ss) t = recorded ss (recordOne s t)
+
+-- what a call has done that records steps: just that, to tables of their length, of steps that join points below 14,616
+pub record Recorded (new : List Step) (before after : Trace) : Type 0 where
+  pub is : after ≡ recorded new before
+  pub sized : Sized after
+  pub within : (v : ℕ) → meets new v ≡ true → v < 14616

@@ -6,6 +6,7 @@ use borrow.Author.Needs.{needs}
 use lib.ListN.{length}
 use Rattle.rules.specs.Survey.{entry}
 use Rattle.trace.specs.Trace.{trace}
+use Rattle.trace.proofs.Laws.{traced-more}
 use Rattle.drawing.proofs.Slices.{into-length}
 use Rattle.drawing.proofs.Leaves.{points-few, drew-nothing, record-split, leaf-loaded, past-marks, leaf-drawn}
 use Rattle.drawing.proofs.draw_record.Statement.{statement}
@@ -44,7 +45,7 @@ draw-loops-requires c κs =
     let inside = s .pre .1 .0 in
     let empty = s .pre .1 .1 .0 in
     let whole : entry (a .cells .now) (a .n) ≡ 0 = sym (c .before .before .before .before .before .before .before .before .before .before .before .before .before .before .before .cell-entry .ensures) ∙ c .before .before .before .before .before .before .before .before .before .before .before .before .before .before .if1 .left in
-    let traced = c .before .before .before .before .before .before .before .before .before .before .leaf-steps .ensures .adds [] empty in
+    let traced = traced-more _ [] _ _ (c .before .before .before .before .before .before .before .before .before .before .leaf-steps .ensures) empty in
     let loaded = leaf-loaded (a .cells .now) (a .corners .now) (a .clearance) (ready .passed) (a .n) inside whole (a .twins .now) (trace _ _ _) (ready .twin) traced in
     let few = points-few (a .cells .now) (a .corners .now) (a .clearance) (ready .passed) in
     let all = s .pre .1 .1 .1 in (
@@ -60,7 +61,7 @@ same-length c =
     let inside = s .pre .1 .0 in
     let empty = s .pre .1 .1 .0 in
     let whole : entry (a .cells .now) (a .n) ≡ 0 = sym (c .before .before .before .before .before .before .before .before .before .before .before .before .before .before .before .before .before .before .before .before .before .before .before .before .cell-entry .ensures) ∙ c .before .before .before .before .before .before .before .before .before .before .before .before .before .before .before .before .before .before .before .before .before .before .before .if1 .left in
-    let traced = c .before .before .before .before .before .before .before .before .before .before .before .before .before .before .before .before .before .before .before .leaf-steps .ensures .adds [] empty in
+    let traced = traced-more _ [] _ _ (c .before .before .before .before .before .before .before .before .before .before .before .before .before .before .before .before .before .before .before .leaf-steps .ensures) empty in
     let loaded = leaf-loaded (a .cells .now) (a .corners .now) (a .clearance) (ready .passed) (a .n) inside whole (a .twins .now) (trace _ _ _) (ready .twin) traced in
     c .before .before .before .before .before .before .before .before .draw-loops .ensures (loaded .leaf) (loaded .traced) .emptied .sized .points ∙ sym (empty .sized .points)
 
@@ -72,7 +73,7 @@ same-length-2 c =
     let inside = s .pre .1 .0 in
     let empty = s .pre .1 .1 .0 in
     let whole : entry (a .cells .now) (a .n) ≡ 0 = sym (c .before .before .before .before .before .before .before .before .before .before .before .before .before .before .before .before .before .before .before .before .before .before .before .before .cell-entry .ensures) ∙ c .before .before .before .before .before .before .before .before .before .before .before .before .before .before .before .before .before .before .before .before .before .before .before .if1 .left in
-    let traced = c .before .before .before .before .before .before .before .before .before .before .before .before .before .before .before .before .before .before .before .leaf-steps .ensures .adds [] empty in
+    let traced = traced-more _ [] _ _ (c .before .before .before .before .before .before .before .before .before .before .before .before .before .before .before .before .before .before .before .leaf-steps .ensures) empty in
     let loaded = leaf-loaded (a .cells .now) (a .corners .now) (a .clearance) (ready .passed) (a .n) inside whole (a .twins .now) (trace _ _ _) (ready .twin) traced in
     c .before .before .before .before .before .before .before .before .draw-loops .ensures (loaded .leaf) (loaded .traced) .emptied .sized .same ∙ sym (empty .sized .same)
 
@@ -84,7 +85,7 @@ same-length-3 c =
     let inside = s .pre .1 .0 in
     let empty = s .pre .1 .1 .0 in
     let whole : entry (a .cells .now) (a .n) ≡ 0 = sym (c .before .before .before .before .before .before .before .before .before .before .before .before .before .before .before .before .before .before .before .before .before .before .before .before .cell-entry .ensures) ∙ c .before .before .before .before .before .before .before .before .before .before .before .before .before .before .before .before .before .before .before .before .before .before .before .if1 .left in
-    let traced = c .before .before .before .before .before .before .before .before .before .before .before .before .before .before .before .before .before .before .before .leaf-steps .ensures .adds [] empty in
+    let traced = traced-more _ [] _ _ (c .before .before .before .before .before .before .before .before .before .before .before .before .before .before .before .before .before .before .before .leaf-steps .ensures) empty in
     let loaded = leaf-loaded (a .cells .now) (a .corners .now) (a .clearance) (ready .passed) (a .n) inside whole (a .twins .now) (trace _ _ _) (ready .twin) traced in
     c .before .before .before .before .before .before .before .before .draw-loops .ensures (loaded .leaf) (loaded .traced) .emptied .sized .groups ∙ sym (empty .sized .groups)
 
@@ -96,7 +97,7 @@ same-length-4 c =
     let inside = s .pre .1 .0 in
     let empty = s .pre .1 .1 .0 in
     let whole : entry (a .cells .now) (a .n) ≡ 0 = sym (c .before .before .before .before .before .before .before .before .before .before .before .before .before .before .before .before .before .before .before .before .before .before .before .before .cell-entry .ensures) ∙ c .before .before .before .before .before .before .before .before .before .before .before .before .before .before .before .before .before .before .before .before .before .before .before .if1 .left in
-    let traced = c .before .before .before .before .before .before .before .before .before .before .before .before .before .before .before .before .before .before .before .leaf-steps .ensures .adds [] empty in
+    let traced = traced-more _ [] _ _ (c .before .before .before .before .before .before .before .before .before .before .before .before .before .before .before .before .before .before .before .leaf-steps .ensures) empty in
     let loaded = leaf-loaded (a .cells .now) (a .corners .now) (a .clearance) (ready .passed) (a .n) inside whole (a .twins .now) (trace _ _ _) (ready .twin) traced in
     ap length (c .before .before .before .before .before .before .before .before .draw-loops .ensures (loaded .leaf) (loaded .traced) .wrote) ∙ into-length _ (a .out .now)
 
@@ -109,7 +110,7 @@ returns-2 c =
     let inside = s .pre .1 .0 in
     let empty = s .pre .1 .1 .0 in
     let whole : entry (a .cells .now) (a .n) ≡ 0 = sym (c .before .before .before .before .before .before .before .before .before .before .before .before .before .before .before .before .before .before .before .before .before .before .before .before .cell-entry .ensures) ∙ c .before .before .before .before .before .before .before .before .before .before .before .before .before .before .before .before .before .before .before .before .before .before .before .if1 .left in
-    let traced = c .before .before .before .before .before .before .before .before .before .before .before .before .before .before .before .before .before .before .before .leaf-steps .ensures .adds [] empty in
+    let traced = traced-more _ [] _ _ (c .before .before .before .before .before .before .before .before .before .before .before .before .before .before .before .before .before .before .before .leaf-steps .ensures) empty in
     leaf-drawn (a .cells .now) (a .corners .now) (a .clearance) (ready .passed) (a .n) inside whole (a .twins .now) (trace _ _ _) (trace _ _ _) _ _ _ (ready .twin) traced
     (c .before .before .before .before .before .before .before .before .draw-loops .ensures)
 
