@@ -1,4 +1,5 @@
--- Further surveys under the same statement: each tells a wrong drawing or a wrong order of checks that the starred ones let pass.
+-- Further surveys under the same statement: drawings and enquiries that tell wrong rules apart which the starred ones let pass; every refusal
+-- from 1 to 11; and which one is given where two apply.
 -- Assumes nothing.
 use Prim.Native.Nat.{ℕ, _+_, _-_, _*_}
 use mathlib.Core.List.{List, [], _∷_, _++_}
@@ -6,7 +7,8 @@ use lib.ListN.{replicate}
 use Rattle.base.specs.Lists.{collect, count}
 use Rattle.base.specs.Grid.{Place}
 use Rattle.rules.specs.Survey.{cellsOf}
-use Rattle.rules.proofs.Surveys.{cellTable, place, Soundings, at, one, minusOne, two, three, wetAtOnly, Shape, shape, leaves, leaf, split, Call, checking, drawing, asking, Example, example, Right, right, Each, each}
+use Rattle.rules.proofs.Surveys.{cellTable, cornerTable, place, Soundings, at, one, minusOne, two, three, wetAtOnly, Shape, shape, leaves, leaf, split}
+use Rattle.rules.proofs.Surveys.{checking, drawing, asking, Example, example, exampleAt, untouched, Right, right, Each, each}
 use Rattle.rules.proofs.Starred.{f64, f128, f256, f512, centre, twins}
 
 -- ---- surveys
@@ -36,16 +38,33 @@ withCorners ps s = record { cells = s .cells; corners = ps }
 abbrev pub twice : List Place
 twice = place 0 0 0 ∷ place 0 0 0 ∷ []
 
-abbrev pub notANumber : Soundings
-notANumber p = 0x7fc0_0000
+-- bits of floats: not a number; 1,048,576.125, which is beyond the greatest sounding, and its opposite; infinity
+abbrev pub notANumber : ℕ
+notANumber = 0x7fc0_0000
 
--- a drawing that is refused by a number, with slices of no element
+abbrev pub beyond : ℕ
+beyond = 0x4980_0001
+
+abbrev pub minusBeyond : ℕ
+minusBeyond = 0xc980_0001
+
+abbrev pub infinity : ℕ
+infinity = 0x7f80_0000
+
+-- only (0,0,0) wet
+abbrev pub oneWet : Soundings
+oneWet = wetAtOnly (place 0 0 0 ∷ [])
+
+-- a drawing at clearance v that is refused by a number, with slices of three elements, which it leaves as they were
+abbrev pub refusedAt : ℕ → ℕ → Shape → Soundings → Example
+refusedAt v n s f = exampleAt v s f (drawing 3 3) (n ∷ 0 ∷ 0 ∷ untouched 3 3)
+
 abbrev pub refused : ℕ → Shape → Soundings → Example
-refused n s f = example s f (drawing 0 0) (n ∷ 0 ∷ 0 ∷ [])
+refused n s f = refusedAt 0 n s f
 
--- at a clearance that is not a number
-abbrev pub unclear : Shape → Soundings → Call → List ℕ → Example
-unclear s f c r = record { survey = s; soundings = f; clearance = 0x7fc0_0000; call = c; answer = r }
+-- with this corner table, byte by byte
+abbrev pub refusedTable : ℕ → Shape → List ℕ → Example
+refusedTable n s t = record { cells = s .cells; corners = t; clearance = 0; call = drawing 3 3; answer = n ∷ 0 ∷ 0 ∷ untouched 3 3 }
 
 -- ---- drawings and enquiries
 
@@ -72,42 +91,72 @@ drawings =
 
 -- ---- refusals
 
+-- each refusal by itself: no other applies before it
 unfoldable pub refusals : List Example
 refusals =
-    -- 1: empty, not whole records, 8,200 bytes; 2: empty, not whole records
-    refused 1 (withCells [] leaf) centre ∷
-    refused 1 (withCells (replicate 5 0) leaf) centre ∷
-    refused 1 (withCells (replicate 8200 0) leaf) centre ∷
-    refused 2 (withCorners [] leaf) centre ∷
-    -- 3: a split record's entry is not above its number; one record too many; the first entry is not 1
-    refused 3 (withCells (cellTable (leaves 2)) leaf) centre ∷
-    refused 3 (withCells (cellTable (9 ∷ leaves 8)) leaf) centre ∷
+    -- 1: empty, not whole records, 8,200 bytes
+    refused 1 (withCells [] leaf) oneWet ∷
+    refused 1 (withCells (replicate 5 0) leaf) oneWet ∷
+    refused 1 (withCells (replicate 8200 0) leaf) oneWet ∷
+    -- 2: empty, not whole records, 48,730 bytes
+    refusedTable 2 leaf [] ∷
+    refusedTable 2 leaf (cornerTable (leaf .corners) oneWet ++ 0 ∷ []) ∷
+    refusedTable 2 leaf (replicate 48730 0) ∷
+    -- 3: a record too many, a record too few, a first entry that is not 1, an entry that is its own record number
+    refused 3 (withCells (cellTable (leaves 2)) leaf) oneWet ∷
+    refused 3 (withCells (cellTable (1 ∷ leaves 7)) split) oneWet ∷
+    refused 3 (withCells (cellTable (9 ∷ leaves 8)) split) oneWet ∷
+    refused 3 (withCells (cellTable (0 ∷ 1 ∷ leaves 7)) split) oneWet ∷
     -- 4: a cell of depth 10 is split; one of depth 9 may be, and is then refused for its corners
-    refused 4 (withCells (cellTable (chain 11)) leaf) centre ∷
-    refused 6 (withCells (cellTable (chain 10)) leaf) centre ∷
-    -- 5: two records about one corner; 6: corners missing, then corners too many; 7: below the least sounding
-    refused 5 (withCorners twice leaf) centre ∷
-    refused 6 (withCorners (leaf .corners) split) centre ∷
-    refused 6 (withCorners (split .corners) leaf) centre ∷
-    refused 7 leaf (λ p. 0xc980_0001) ∷
-    -- 8; 11: a length that is no power of two, an edge that no cell has
-    unclear leaf centre (drawing 0 0) (8 ∷ 0 ∷ 0 ∷ []) ∷
-    example leaf centre (asking 0 (place 0 0 0) 1000) (11 ∷ []) ∷
-    example leaf centre (asking 0 (place 0 0 0) 512) (11 ∷ []) ∷
-    -- of two that apply, the lower one is given: 1 and 2, 2 and 3, 3 and 4, 4 and 5, 5 and 6, 6 and 7, 7 and 8, 8 and 9, 9 and 10, 8 and 11
-    refused 1 (record { cells = []; corners = [] }) centre ∷
-    refused 2 (record { cells = cellTable (leaves 2); corners = [] }) centre ∷
-    refused 3 (withCells (cellTable (chain 11 ++ leaves 1)) leaf) centre ∷
-    refused 4 (record { cells = cellTable (chain 11); corners = twice }) centre ∷
-    refused 5 (withCorners twice split) centre ∷
-    refused 6 (withCorners (leaf .corners) split) notANumber ∷
-    unclear leaf notANumber (drawing 0 0) (7 ∷ 0 ∷ 0 ∷ []) ∷
-    unclear leaf (wetAtOnly (place 0 0 0 ∷ [])) (drawing 0 0) (8 ∷ 0 ∷ 0 ∷ []) ∷
-    example leaf (wetAtOnly (place 0 0 0 ∷ [])) (drawing 8 2) (9 ∷ 3 ∷ 1 ∷ replicate 8 0 ++ replicate 2 9) ∷
-    unclear leaf centre (asking 3 (place 0 0 0) 1024) (8 ∷ []) ∷
+    refused 4 (withCells (cellTable (chain 11)) leaf) oneWet ∷
+    refused 6 (withCells (cellTable (chain 10)) leaf) oneWet ∷
+    -- 5: two records about one corner; a fall on z, on y, on x
+    refused 5 (withCorners twice leaf) oneWet ∷
+    refused 5 (withCorners (place 0 0 1024 ∷ place 1024 1024 0 ∷ []) leaf) oneWet ∷
+    refused 5 (withCorners (place 0 1024 0 ∷ place 1024 0 0 ∷ []) leaf) oneWet ∷
+    refused 5 (withCorners (place 1024 0 0 ∷ place 0 0 0 ∷ []) leaf) oneWet ∷
+    -- 6: corners missing, corners too many
+    refused 6 (withCorners (leaf .corners) split) oneWet ∷
+    refused 6 (withCorners (split .corners) leaf) oneWet ∷
+    -- 7: at one corner a sounding below the least, or infinite; the least, -1,048,576, passes
+    refused 7 leaf (at (place 1024 1024 1024 ∷ []) minusBeyond one) ∷
+    refused 7 leaf (at (place 1024 1024 1024 ∷ []) infinity one) ∷
+    example leaf (λ p. 0xc980_0000) (drawing 3 3) (0 ∷ 0 ∷ 0 ∷ untouched 3 3) ∷
+    -- 8: a clearance that is not a number, above the greatest, below the least; 1,048,576 passes
+    refusedAt notANumber 8 leaf oneWet ∷
+    refusedAt beyond 8 leaf oneWet ∷
+    refusedAt minusBeyond 8 leaf oneWet ∷
+    exampleAt 0x4980_0000 leaf oneWet (drawing 3 3) (0 ∷ 0 ∷ 0 ∷ untouched 3 3) ∷
+    -- 9, 10: a point slice, then a triangle slice, that is too short by one element
+    example leaf oneWet (drawing 8 3) (9 ∷ 3 ∷ 1 ∷ untouched 8 3) ∷
+    example leaf oneWet (drawing 9 2) (10 ∷ 3 ∷ 1 ∷ untouched 9 2) ∷
+    -- 11: an axis above 2, a length that is no power of two, an edge that no cell has
+    example leaf oneWet (asking 3 (place 0 0 0) 1024) (11 ∷ []) ∷
+    example leaf oneWet (asking 0 (place 0 0 0) 1000) (11 ∷ []) ∷
+    example leaf oneWet (asking 0 (place 0 0 0) 512) (11 ∷ []) ∷ []
+
+-- Of two refusals that both apply, the lower one is given. No survey that passes 7 can have 8 and 9, or 8 and 10, apply: at a clearance that is
+-- refused by 8 all its corners are dry, or all are wet, so it has no point, and no slice is too short.
+unfoldable pub lowest : List Example
+lowest =
+    -- 1 and 2, 2 and 3, 3 and 4, 4 and 5, 5 and 6, 6 and 7, 7 and 8
+    refusedTable 1 (withCells [] leaf) [] ∷
+    refusedTable 2 (withCells (cellTable (leaves 2)) leaf) [] ∷
+    refused 3 (withCells (cellTable (chain 11 ++ leaves 1)) leaf) oneWet ∷
+    refused 4 (record { cells = cellTable (chain 11); corners = twice }) oneWet ∷
+    refused 5 (withCorners twice split) oneWet ∷
+    refused 6 (withCorners (leaf .corners) split) (λ p. notANumber) ∷
+    refusedAt notANumber 7 leaf (λ p. notANumber) ∷
+    -- 7 to 10: one corner is wet, by a sounding beyond the greatest, at a clearance beyond it
+    refusedAt beyond 7 leaf (at (place 0 0 0 ∷ []) infinity minusOne) ∷
+    -- 9 and 10
+    example leaf oneWet (drawing 8 2) (9 ∷ 3 ∷ 1 ∷ untouched 8 2) ∷
+    -- 7 and 11, 8 and 11
+    example leaf (λ p. notANumber) (asking 3 (place 0 0 0) 1024) (7 ∷ []) ∷
+    exampleAt notANumber leaf oneWet (asking 3 (place 0 0 0) 1024) (8 ∷ []) ∷
     -- a check by itself does not look at the clearance
-    unclear leaf centre checking (0 ∷ []) ∷
-    unclear leaf notANumber checking (7 ∷ []) ∷ []
+    exampleAt notANumber leaf oneWet checking (0 ∷ []) ∷
+    exampleAt notANumber leaf (λ p. notANumber) checking (7 ∷ []) ∷ []
 
 -- Each of them gives what document 01 asks.
 pub drawings-right : Each Right drawings
@@ -115,5 +164,9 @@ unfolding right drawings centre
 drawings-right = each drawings tt
 
 pub refusals-right : Each Right refusals
-unfolding right refusals centre
+unfolding right refusals
 refusals-right = each refusals tt
+
+pub lowest-right : Each Right lowest
+unfolding right lowest
+lowest-right = each lowest tt

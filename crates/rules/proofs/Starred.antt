@@ -5,7 +5,8 @@ use mathlib.Core.Bool.{true, false}
 use mathlib.Core.List.{List, [], _∷_, _++_}
 use lib.ListN.{replicate}
 use Rattle.rules.specs.Survey.{cellsOf}
-use Rattle.rules.proofs.Surveys.{cellTable, place, Soundings, at, minusOne, three, wetAtOnly, Shape, shape, leaves, leaf, split, drawing, asking, stepping, Example, example, Right, right, Each, each}
+use Rattle.rules.proofs.Surveys.{cellTable, place, Soundings, at, one, minusOne, three, wetAtOnly, Shape, shape, leaves, leaf, split}
+use Rattle.rules.proofs.Surveys.{drawing, asking, Example, example, faceAlone, oldFloat, oldNumber, untouched, Right, right, Each, each}
 
 -- the bits of some coordinates
 abbrev pub f64 : ℕ
@@ -26,6 +27,9 @@ f512 = 0x4400_0000
 abbrev pub f768 : ℕ
 f768 = 0x4440_0000
 
+abbrev pub f1024 : ℕ
+f1024 = 0x4480_0000
+
 unfoldable pub centre : Soundings
 centre = wetAtOnly (place 512 512 512 ∷ [])
 
@@ -41,27 +45,35 @@ unfoldable pub twins : Shape
 unfolding cellsOf
 twins = shape (1 ∷ 9 ∷ leaves 15) (0 ∷ 256 ∷ 512 ∷ 1024 ∷ [])
 
+abbrev pub twinSoundings : Soundings
+twinSoundings = wetAtOnly (place 256 512 512 ∷ [])
+
 unfoldable pub starred : List Example
 unfolding centre six eight twins
 starred =
     -- one leaf, only (0,0,0) wet; the elements past the last are untouched
-    example leaf (wetAtOnly (place 0 0 0 ∷ [])) (drawing 10 5) (0 ∷ 3 ∷ 1 ∷ f512 ∷ 0 ∷ 0 ∷ 0 ∷ f512 ∷ 0 ∷ 0 ∷ 0 ∷ f512 ∷ 0 ∷ 0 ∷ 1 ∷ 2 ∷ 9 ∷ 9 ∷ []) ∷
+    example leaf (wetAtOnly (place 0 0 0 ∷ [])) (drawing 10 5)
+    (0 ∷ 3 ∷ 1 ∷ f512 ∷ 0 ∷ 0 ∷ 0 ∷ f512 ∷ 0 ∷ 0 ∷ 0 ∷ f512 ∷ oldFloat ∷ 0 ∷ 1 ∷ 2 ∷ oldNumber ∷ oldNumber ∷ []) ∷
     -- one split, only the centre wet
     example split centre (drawing 18 24) (0 ∷ 6 ∷ 8 ∷ six ++ eight) ∷
-    example split centre (drawing 17 24) (9 ∷ 6 ∷ 8 ∷ replicate 17 0 ++ replicate 24 9) ∷
-    example split centre (drawing 18 23) (10 ∷ 6 ∷ 8 ∷ replicate 18 0 ++ replicate 23 9) ∷
+    example split centre (drawing 17 24) (9 ∷ 6 ∷ 8 ∷ untouched 17 24) ∷
+    example split centre (drawing 18 23) (10 ∷ 6 ∷ 8 ∷ untouched 18 23) ∷
     -- all dry, and all wet
     example split (λ p. minusOne) (drawing 0 0) (0 ∷ 0 ∷ 0 ∷ []) ∷
-    example split (λ p. three) (drawing 0 0) (0 ∷ 0 ∷ 0 ∷ []) ∷
-    -- a face with two opposite wet corners: two steps
-    example leaf centre (stepping true false true false) (1 ∷ 2 ∷ 3 ∷ 0 ∷ []) ∷
+    example split (λ p. one) (drawing 0 0) (0 ∷ 0 ∷ 0 ∷ []) ∷
+    -- a face with two opposite wet corners, on either diagonal: two steps; and the drawing of a leaf with such a side
+    faceAlone true false true false (1 ∷ 2 ∷ 3 ∷ 0 ∷ []) ∷
+    faceAlone false true false true (0 ∷ 1 ∷ 2 ∷ 3 ∷ []) ∷
+    example leaf (wetAtOnly (place 0 0 0 ∷ place 1024 1024 0 ∷ [])) (drawing 18 6)
+    (0 ∷ 6 ∷ 2 ∷ f512 ∷ 0 ∷ 0 ∷ f512 ∷ f1024 ∷ 0 ∷ 0 ∷ f512 ∷ 0 ∷ f1024 ∷ f512 ∷ 0 ∷ 0 ∷ 0 ∷ f512 ∷ f1024 ∷ f1024 ∷ f512 ∷
+    0 ∷ 2 ∷ 4 ∷ 1 ∷ 3 ∷ 5 ∷ []) ∷
     -- dry -1 at 0, wet 3 at 256
     example twins (at (place 256 0 0 ∷ []) three minusOne) (asking 0 (place 0 0 0) 256) (0 ∷ 0 ∷ f64 ∷ 0 ∷ 0 ∷ []) ∷
     -- sounding 0 at clearance 0, and sounding -0
     example leaf (at (place 0 0 0 ∷ []) 0 minusOne) (drawing 9 3) (0 ∷ 3 ∷ 1 ∷ replicate 9 0 ++ 0 ∷ 1 ∷ 2 ∷ []) ∷
     example leaf (at (place 0 0 0 ∷ []) 0x8000_0000 minusOne) (drawing 9 3) (0 ∷ 3 ∷ 1 ∷ replicate 9 0 ++ 0 ∷ 1 ∷ 2 ∷ []) ∷
     -- nine records, only record 3 split, entry 1
-    example (record { cells = cellTable (0 ∷ 0 ∷ 0 ∷ 1 ∷ leaves 5); corners = split .corners }) centre (drawing 18 24) (3 ∷ 0 ∷ 0 ∷ replicate 18 0 ++ replicate 24 9) ∷
+    example (record { cells = cellTable (0 ∷ 0 ∷ 0 ∷ 1 ∷ leaves 5); corners = split .corners }) centre (drawing 18 24) (3 ∷ 0 ∷ 0 ∷ untouched 18 24) ∷
     -- soundings 1,048,576, then 1,048,576.125, then not a number
     example leaf (λ p. 0x4980_0000) (drawing 0 0) (0 ∷ 0 ∷ 0 ∷ []) ∷
     example leaf (λ p. 0x4980_0001) (drawing 0 0) (7 ∷ 0 ∷ 0 ∷ []) ∷
@@ -69,7 +81,7 @@ starred =
     -- an enquiry with axis 3
     example leaf centre (asking 3 (place 0 0 0) 1024) (11 ∷ []) ∷
     -- the twin survey
-    example twins (wetAtOnly (place 256 512 512 ∷ [])) (drawing 12 12)
+    example twins twinSoundings (drawing 12 12)
     (0 ∷ 4 ∷ 4 ∷ f128 ∷ f512 ∷ f512 ∷ f384 ∷ f512 ∷ f512 ∷ f256 ∷ f384 ∷ f512 ∷ f256 ∷ f512 ∷ f384 ∷
     0 ∷ 1 ∷ 3 ∷ 0 ∷ 2 ∷ 1 ∷ 0 ∷ 3 ∷ 2 ∷ 1 ∷ 2 ∷ 3 ∷ []) ∷ []
 

@@ -93,23 +93,42 @@ pub data Call : Type 0 where
   asking : ℕ → Place → ℕ → Call
   stepping : Bool → Bool → Bool → Bool → Call
 
--- a survey, the bits of a clearance, a call and its answer
+-- two tables, the bits of a clearance, a call and its answer
 pub record Example : Type 0 where
-  pub survey : Shape
-  pub soundings : Soundings
+  pub cells : List ℕ
+  pub corners : List ℕ
   pub clearance : ℕ
   pub call : Call
   pub answer : List ℕ
 
+-- a survey at a clearance
+abbrev pub exampleAt : ℕ → Shape → Soundings → Call → List ℕ → Example
+exampleAt v s f c r = record { cells = s .cells; corners = cornerTable (s .corners) f; clearance = v; call = c; answer = r }
+
 -- at clearance 0
 abbrev pub example : Shape → Soundings → Call → List ℕ → Example
-example s f c r = record { survey = s; soundings = f; clearance = 0; call = c; answer = r }
+example s f c r = exampleAt 0 s f c r
+
+-- a face by itself, by its four wet marks, and the steps in it: there is no survey
+abbrev pub faceAlone : Bool → Bool → Bool → Bool → List ℕ → Example
+faceAlone a b c d r = record { cells = []; corners = []; clearance = 0; call = stepping a b c d; answer = r }
+
+-- What the elements of the slices hold before: the bits of -7, which is no point's coordinate, and a number that is no point's.
+abbrev pub oldFloat : ℕ
+oldFloat = 0xc0e0_0000
+
+abbrev pub oldNumber : ℕ
+oldNumber = 0xffff_ffff
+
+-- n elements of the point slice and m of the triangle slice, untouched
+abbrev pub untouched : ℕ → ℕ → List ℕ
+untouched n m = replicate n oldFloat ++ replicate m oldNumber
 
 abbrev pub bits : Float → ℕ
 unfolding toBits
 bits v = toBits binary32 v
 
--- A drawing's answer: number, counts, the bits of the point slice, the triangle slice. The slices hold 0 and 9 before.
+-- a drawing's answer: number, counts, the bits of the point slice, the triangle slice
 abbrev pub drawingNumbers : Drawing → List ℕ
 unfolding toBits
 drawingNumbers d = d .result .number ∷ d .result .points ∷ d .result .triangles ∷ map bits (d .points) ++ d .triangles
@@ -128,13 +147,13 @@ answerNumbers (Found e) = returned (Found e) ∷ crossingNumbers (crossing e)
 unfoldable pub outcome : Call → Float → List ℕ → List ℕ → List ℕ
 unfolding surveyRefusal draw enquiry ofBits toBits saddleCut
 outcome checking clearance tc tk = surveyRefusal tc tk ∷ []
-outcome (drawing n m) clearance tc tk = drawingNumbers (draw tc tk clearance (replicate n (ofBits binary32 0)) (replicate m 9))
+outcome (drawing n m) clearance tc tk = drawingNumbers (draw tc tk clearance (replicate n (ofBits binary32 oldFloat)) (replicate m oldNumber))
 outcome (asking a p l) clearance tc tk = answerNumbers (enquiry tc tk clearance a p l)
 outcome (stepping a b c d) clearance tc tk = collect (λ t. t .0 ∷ t .1 ∷ []) (steps (saddleCut X origin 0) a b c d)
 
 unfoldable pub outcomeOf : Example → List ℕ
 unfolding outcome ofBits
-outcomeOf e = outcome (e .call) (ofBits binary32 (e .clearance)) (e .survey .cells) (cornerTable (e .survey .corners) (e .soundings))
+outcomeOf e = outcome (e .call) (ofBits binary32 (e .clearance)) (e .cells) (e .corners)
 
 -- the common statement: what the rules give is the answer written there
 unfoldable pub Right : Example → Type 0
