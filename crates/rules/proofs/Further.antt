@@ -91,7 +91,7 @@ drawings =
 
 -- ---- refusals
 
--- each refusal by itself: no other applies before it
+-- each refusal where no lower one applies
 unfoldable pub refusals : List Example
 refusals =
     -- 1: empty, not whole records, 8,200 bytes
@@ -130,8 +130,7 @@ refusals =
     -- 9, 10: a point slice, then a triangle slice, that is too short by one element
     example leaf oneWet (drawing 8 3) (9 ∷ 3 ∷ 1 ∷ untouched 8 3) ∷
     example leaf oneWet (drawing 9 2) (10 ∷ 3 ∷ 1 ∷ untouched 9 2) ∷
-    -- 11: an axis above 2, a length that is no power of two, an edge that no cell has
-    example leaf oneWet (asking 3 (place 0 0 0) 1024) (11 ∷ []) ∷
+    -- 11: a length that is no power of two, an edge that no cell has
     example leaf oneWet (asking 0 (place 0 0 0) 1000) (11 ∷ []) ∷
     example leaf oneWet (asking 0 (place 0 0 0) 512) (11 ∷ []) ∷ []
 
@@ -147,7 +146,7 @@ lowest =
     refused 5 (withCorners twice split) oneWet ∷
     refused 6 (withCorners (leaf .corners) split) (λ p. notANumber) ∷
     refusedAt notANumber 7 leaf (λ p. notANumber) ∷
-    -- 7 to 10: one corner is wet, by a sounding beyond the greatest, at a clearance beyond it
+    -- 7, 8 and 9: one corner is wet, by a sounding beyond the greatest, at a clearance beyond it
     refusedAt beyond 7 leaf (at (place 0 0 0 ∷ []) infinity minusOne) ∷
     -- 9 and 10
     example leaf oneWet (drawing 8 2) (9 ∷ 3 ∷ 1 ∷ untouched 8 2) ∷

@@ -9,13 +9,26 @@ use surveys::{damage, document, generate, Survey};
 const POINTS: usize = 3 * 2_048;
 const TRIANGLES: usize = 3 * 4_096;
 
+fn root() -> PathBuf {
+    Path::new(env!("CARGO_MANIFEST_DIR")).join("../..")
+}
+
 /// The compiled program; `rt check draw` writes it.
 fn program() -> PathBuf {
-    let root = Path::new(env!("CARGO_MANIFEST_DIR")).join("../..");
-    let made =
-        Command::new("rt").args(["check", "draw"]).current_dir(&root).output().expect("the Rattle toolchain");
+    let made = Command::new("rt")
+        .args(["check", "draw"])
+        .current_dir(root())
+        .output()
+        .expect("the Rattle toolchain");
     assert!(made.status.success(), "rt check draw failed");
-    root.join("target/bin/draw")
+    root().join("target/bin/draw")
+}
+
+/// What the program prints in a directory.
+fn printed_in(program: &Path, directory: &Path) -> String {
+    let output = Command::new(program).current_dir(directory).output().expect("the program runs");
+    assert!(output.status.success());
+    String::from_utf8(output.stdout).expect("text")
 }
 
 /// What the program prints where these files stand; a missing file is `None`.
@@ -29,10 +42,9 @@ fn printed(program: &Path, files: [(&str, Option<&[u8]>); 3]) -> String {
             None => drop(std::fs::remove_file(path)),
         }
     }
-    let output = Command::new(program).current_dir(&directory).output().expect("the program runs");
+    let text = printed_in(program, &directory);
     std::fs::remove_dir_all(&directory).expect("the directory can be removed");
-    assert!(output.status.success());
-    String::from_utf8(output.stdout).expect("text")
+    text
 }
 
 /// The listing by the independent drawing.
@@ -66,9 +78,9 @@ fn assert_printed(program: &Path, survey: &Survey, what: &str) -> String {
 fn listings_and_refusals() {
     let program = program();
     let twin = document::twin();
-    assert!(
-        assert_printed(&program, &twin, "the twin survey").starts_with("4 4\nv 43000000 44000000 44000000\n")
-    );
+    let whole = std::fs::read_to_string(root().join("crates/draw/stdout")).expect("document 01's listing");
+    assert_eq!(assert_printed(&program, &twin, "the twin survey"), whole);
+    assert_eq!(printed_in(&program, &root().join("examples/twin")), whole);
     assert_eq!(printed(&program, [("cells", None), ("corners", None), ("clearance", None)]), "refused 1\n");
     let short: &[u8] = &[0, 0, 0];
     let files = |clearance| {
