@@ -1,101 +1,133 @@
-//! The arguments of a command: options anywhere, the others by their order.
+//! What commands take, for clap to read, and the tool's words for a command line that clap can't read.
 
-use std::ffi::{OsStr, OsString};
+use std::any::Any;
+use std::error::Error as _;
+use std::ffi::OsString;
 use std::str::FromStr;
 
-use crate::failure::Failure;
+use clap::error::{ContextKind, ContextValue, Error, ErrorKind};
+use clap::{Arg, ArgAction, ArgMatches};
 
-/// What stands after the command's name, less what was taken already.
-pub struct Arguments {
-    rest: Vec<OsString>,
+/// A path or a name, in any letters.
+pub fn path(name: &'static str) -> Arg {
+    Arg::new(name).required(true).value_parser(clap::value_parser!(OsString))
 }
 
-impl Arguments {
-    /// All arguments of a command.
-    pub fn new(rest: Vec<OsString>) -> Arguments {
-        Arguments { rest }
-    }
-
-    /// Whether nothing is left.
-    pub fn is_empty(&self) -> bool {
-        self.rest.is_empty()
-    }
-
-    /// Takes an option without a value; says whether it was there.
-    pub fn take_flag(&mut self, name: &str) -> bool {
-        let before = self.rest.len();
-        self.rest.retain(|argument| argument != name);
-        self.rest.len() < before
-    }
-
-    /// Takes an option with a number of degrees, if it is there.
-    pub fn take_degrees(&mut self, name: &str) -> Result<Option<f64>, Failure> {
-        let Some(at) = self.rest.iter().position(|argument| argument == name) else { return Ok(None) };
-        if at + 1 == self.rest.len() {
-            return Err(Failure::Usage(format!("{name} needs a number of degrees")));
-        }
-        let value = self.rest.drain(at..at + 2).next_back().expect("the option and its number");
-        let degrees: f64 = number(name, &value)?;
-        if !degrees.is_finite() {
-            return Err(Failure::Usage(format!("{name} needs a finite number of degrees")));
-        }
-        Ok(Some(degrees))
-    }
-
-    /// The arguments that are left: exactly as many as have names, and none that looks like an option.
-    pub fn finish<const COUNT: usize>(self, names: [&str; COUNT]) -> Result<[OsString; COUNT], Failure> {
-        let is_option = |argument: &&OsString| argument.as_encoded_bytes().starts_with(b"--");
-        if let Some(option) = self.rest.iter().find(is_option) {
-            return Err(Failure::Usage(format!("unknown option {}", option.to_string_lossy())));
-        }
-        if let Some(name) = names.get(self.rest.len()) {
-            return Err(Failure::Usage(format!("{name} is missing")));
-        }
-        self.rest.try_into().map_err(|rest: Vec<OsString>| {
-            Failure::Usage(format!("one argument too many: {}", rest[COUNT].to_string_lossy()))
-        })
-    }
+/// A whole number. What looks like a negative one is no option, but a number that does not fit.
+pub fn number(name: &'static str) -> Arg {
+    Arg::new(name).required(true).allow_negative_numbers(true).value_parser(fitting::<u32>)
 }
 
-/// Reads an argument as a number.
-pub fn number<N: FromStr>(name: &str, argument: &OsStr) -> Result<N, Failure> {
-    let wrong = || Failure::Usage(format!("{name}: {} is no number that fits", argument.to_string_lossy()));
-    argument.to_str().and_then(|text| text.parse().ok()).ok_or_else(wrong)
+/// An axis by its letter or its number.
+pub fn axis(name: &'static str) -> Arg {
+    number(name).value_parser(|text: &str| match text {
+        "x" => Ok(0),
+        "y" => Ok(1),
+        "z" => Ok(2),
+        _ => fitting::<u32>(text),
+    })
+}
+
+/// An option with a number of degrees.
+pub fn degrees(name: &'static str, otherwise: &'static str) -> Arg {
+    let finite = |text: &str| match fitting::<f64>(text) {
+        Ok(degrees) if !degrees.is_finite() => Err("is no finite number of degrees"),
+        degrees => degrees,
+    };
+    let option = Arg::new(name).long(name).allow_hyphen_values(true);
+    option.value_name("DEGREES").default_value(otherwise).value_parser(finite)
+}
+
+/// An option without a value, which may stand there more than once.
+pub fn flag(name: &'static str) -> Arg {
+    Arg::new(name).long(name).action(ArgAction::SetTrue).overrides_with(name)
+}
+
+fn fitting<N: FromStr>(text: &str) -> Result<N, &'static str> {
+    text.parse().map_err(|_| "is no number that fits")
+}
+
+/// The value of an argument that is required or has a default.
+pub fn taken<'a, T: Any + Clone + Send + Sync>(arguments: &'a ArgMatches, name: &str) -> &'a T {
+    arguments.get_one(name).expect("clap has found a value")
+}
+
+/// What is wrong with a command line.
+pub fn words(error: &Error) -> String {
+    let value = |kind| match error.get(kind) {
+        Some(ContextValue::String(value)) => value,
+        Some(ContextValue::Strings(values)) => values.first().map_or("", String::as_str),
+        _ => "",
+    };
+    let given = value(ContextKind::InvalidArg);
+    // Arguments by their names: clap has <DIR>, [DIR] where it may be left out, and --turn <DEGREES>.
+    let name = given.trim_end_matches(" <DEGREES>").trim_matches(['<', '>', '[', ']']);
+    match error.kind() {
+        ErrorKind::MissingSubcommand => "a command is missing".to_owned(),
+        ErrorKind::InvalidSubcommand => format!("unknown command {}", value(ContextKind::InvalidSubcommand)),
+        ErrorKind::MissingRequiredArgument => format!("{name} is missing"),
+        ErrorKind::UnknownArgument if given.starts_with('-') => format!("unknown option {given}"),
+        ErrorKind::UnknownArgument => format!("one argument too many: {given}"),
+        ErrorKind::ArgumentConflict => format!("{name} is there twice"),
+        ErrorKind::InvalidValue => format!("{name} needs a number of degrees"),
+        ErrorKind::ValueValidation => {
+            let wrong = error.source().map_or_else(String::new, |wrong| wrong.to_string());
+            format!("{name}: {} {wrong}", value(ContextKind::InvalidValue))
+        }
+        ErrorKind::InvalidUtf8 => "a number is not written in UTF-8".to_owned(),
+        _ => error.to_string(),
+    }
 }
 
 #[cfg(test)]
 mod tests {
     use super::*;
 
-    fn arguments(list: &[&str]) -> Arguments {
-        Arguments::new(list.iter().map(OsString::from).collect())
-    }
-
-    fn message<T>(result: Result<T, Failure>) -> String {
-        result.err().expect("a failure").to_string()
+    fn read(takes: &[Arg], given: &[&str]) -> Result<ArgMatches, String> {
+        let command = clap::Command::new("test").no_binary_name(true).args(takes);
+        command.try_get_matches_from(given).map_err(|error| words(&error))
     }
 
     #[test]
     fn options_are_taken_from_anywhere() {
-        let mut given = arguments(&["--turn", "-30", "here", "--edges", "there"]);
-        assert!(given.take_flag("--edges"));
-        assert!(!given.take_flag("--edges"));
-        assert_eq!(given.take_degrees("--turn").unwrap(), Some(-30.0));
-        assert_eq!(given.take_degrees("--turn").unwrap(), None);
-        assert_eq!(given.finish(["DIR", "OUT"]).unwrap(), ["here", "there"]);
+        let takes = [
+            path("DIR"),
+            path("OUT"),
+            flag("edges"),
+            flag("near"),
+            degrees("turn", "30"),
+            degrees("tilt", "35"),
+        ];
+        let given = read(&takes, &["--turn", "-30", "here", "--edges", "there", "--edges"]).unwrap();
+        assert_eq!(["DIR", "OUT"].map(|name| taken::<OsString>(&given, name)), ["here", "there"]);
+        assert_eq!(["edges", "near"].map(|name| given.get_flag(name)), [true, false]);
+        assert_eq!(["turn", "tilt"].map(|name| *taken::<f64>(&given, name)), [-30.0, 35.0]);
+    }
+
+    #[test]
+    fn axes_have_letters_and_numbers() {
+        for (text, axis_number) in [("x", 0), ("y", 1), ("z", 2), ("0", 0), ("2", 2), ("3", 3)] {
+            assert_eq!(*taken::<u32>(&read(&[axis("AXIS")], &[text]).unwrap(), "AXIS"), axis_number);
+        }
     }
 
     #[test]
     fn what_does_not_fit_is_named() {
-        assert_eq!(message(arguments(&["here"]).finish(["DIR", "OUT"])), "OUT is missing");
-        assert_eq!(message(arguments(&["here", "there"]).finish(["DIR"])), "one argument too many: there");
-        assert_eq!(message(arguments(&["--tun"]).finish(["DIR"])), "unknown option --tun");
-        assert_eq!(
-            message(arguments(&["--turn"]).take_degrees("--turn")),
-            "--turn needs a number of degrees"
-        );
-        let infinite = arguments(&["--tilt", "inf"]).take_degrees("--tilt");
-        assert_eq!(message(infinite), "--tilt needs a finite number of degrees");
-        assert_eq!(message(number::<u32>("X", OsStr::new("-1"))), "X: -1 is no number that fits");
+        let pair = [path("NAME").required(false).requires("DIR"), path("DIR").required(false)];
+        let cases: [(&[Arg], &[&str], &str); 10] = [
+            (&[path("DIR"), path("OUT")], &["here"], "OUT is missing"),
+            (&pair, &["here"], "DIR is missing"),
+            (&[path("DIR")], &["here", "there"], "one argument too many: there"),
+            (&[path("DIR")], &["--tun"], "unknown option --tun"),
+            (&[degrees("turn", "30")], &["--turn"], "--turn needs a number of degrees"),
+            (&[degrees("turn", "30")], &["--turn", "1", "--turn", "2"], "--turn is there twice"),
+            (&[degrees("tilt", "35")], &["--tilt", "inf"], "--tilt: inf is no finite number of degrees"),
+            (&[degrees("tilt", "35")], &["--tilt", "--turn"], "--tilt: --turn is no number that fits"),
+            (&[number("X")], &["-1"], "X: -1 is no number that fits"),
+            (&[axis("AXIS")], &["w"], "AXIS: w is no number that fits"),
+        ];
+        for (takes, given, expected) in cases {
+            assert_eq!(read(takes, given).unwrap_err(), expected);
+        }
     }
 }

@@ -2,14 +2,16 @@
 
 use std::ffi::OsString;
 use std::io::{ErrorKind, Write};
-use std::path::{Path, PathBuf};
+use std::path::Path;
 use std::process::ExitCode;
 
+use clap::error::ErrorKind as ParseErrorKind;
+use clap::{Arg, ArgMatches};
 use clearance::{Edge, Mesh};
 use surveys::plain::Plain;
 use surveys::Survey;
 
-use crate::arguments::{number, Arguments};
+use crate::arguments::{axis, degrees, flag, number, path, taken, words};
 use crate::examples;
 use crate::facts;
 use crate::failure::{refused, Failure};
@@ -31,12 +33,17 @@ impl From<String> for Printed {
     }
 }
 
+/// Names of arguments.
+const DIRECTORY: &str = "DIR";
+const AXIS: &str = "AXIS (x, y, z or 0, 1, 2)";
+
 struct Command {
     name: &'static str,
     arguments: &'static str,
     summary: &'static str,
     help: &'static str,
-    run: fn(Arguments) -> Result<Printed, Failure>,
+    takes: fn() -> Vec<Arg>,
+    run: fn(&ArgMatches) -> Result<Printed, Failure>,
 }
 
 const COMMANDS: [Command; 8] = [
@@ -46,6 +53,7 @@ const COMMANDS: [Command; 8] = [
         summary: "say whether a survey is lawful",
         help: "Prints 'lawful', or 'refused', the number of the first refusal of 1 to 7 that applies, and its words.\n\
                Reads cells and corners; the clearance is not looked at. A missing file is an error.",
+        takes: || vec![path(DIRECTORY)],
         run: check,
     },
     Command {
@@ -56,6 +64,7 @@ const COMMANDS: [Command; 8] = [
                of x, y and z in hexadecimal; a line 't' for each triangle with its point numbers. On refusal prints\n\
                'refused' and the number, and the words on standard error. There is no limit on points and triangles.\n\
                A missing file counts as empty, as it does for that program.",
+        takes: || vec![path(DIRECTORY)],
         run: draw,
     },
     Command {
@@ -64,6 +73,7 @@ const COMMANDS: [Command; 8] = [
         summary: "ask about one edge",
         help: "Asks about the edge along AXIS (x, y, z or 0, 1, 2) from the lower end (X, Y, Z) over LENGTH. Prints 'even',\n\
                or 'crossing', the point's number and its x, y and z. A missing file is an error.",
+        takes: || [vec![path(DIRECTORY), axis(AXIS)], ["X", "Y", "Z", "LENGTH"].map(number).to_vec()].concat(),
         run: enquire,
     },
     Command {
@@ -73,6 +83,7 @@ const COMMANDS: [Command; 8] = [
         help: "Prints the cell records, the greatest depth, the leaves, corners, points and triangles, and whether the\n\
                surface is closed at the box. If so, prints the volume inside; the whole box has 1073741824. A missing file is\n\
                an error.",
+        takes: || vec![path(DIRECTORY)],
         run: info,
     },
     Command {
@@ -81,6 +92,7 @@ const COMMANDS: [Command; 8] = [
         summary: "write the surface as Wavefront OBJ",
         help: "Prints the surface as Wavefront OBJ. Decimal numbers read back as the same binary32. Triangles go\n\
                counter-clockwise seen from the dry side. A missing file is an error.",
+        takes: || vec![path(DIRECTORY)],
         run: |arguments| mesh(arguments, formats::obj),
     },
     Command {
@@ -89,6 +101,7 @@ const COMMANDS: [Command; 8] = [
         summary: "write the surface as PLY (ascii)",
         help: "Prints the surface as PLY, ascii 1.0. Decimal numbers read back as the same binary32. Triangles go\n\
                counter-clockwise seen from the dry side. A missing file is an error.",
+        takes: || vec![path(DIRECTORY)],
         run: |arguments| mesh(arguments, formats::ply),
     },
     Command {
@@ -103,6 +116,11 @@ const COMMANDS: [Command; 8] = [
                --inside        look into the wet space: leave out the sides towards the viewer\n\
                --near          let the surface fill the picture, and not the box\n\
                A missing file of the survey is an error. The picture is written over.",
+        takes: || {
+            let looks = [degrees("turn", "30"), degrees("tilt", "35")];
+            let flags = ["edges", "cells", "inside", "near"].map(flag);
+            [path(DIRECTORY), path("OUT")].into_iter().chain(looks).chain(flags).collect()
+        },
         run: render,
     },
     Command {
@@ -111,6 +129,7 @@ const COMMANDS: [Command; 8] = [
         summary: "write an example survey, or list the names",
         help: "Writes the files cells, corners and clearance of the example NAME into DIR, which is made if need be. No file is\n\
                written over. Without arguments, lists the names.",
+        takes: || vec![path("NAME").required(false).requires(DIRECTORY), path(DIRECTORY).required(false)],
         run: example,
     },
 ];
@@ -138,23 +157,25 @@ pub fn run(arguments: Vec<OsString>) -> ExitCode {
     }
 }
 
-fn chosen(mut arguments: Vec<OsString>) -> Result<Printed, Failure> {
-    let asks_help = |argument: &OsString| argument == "--help" || argument == "-h";
-    if arguments.is_empty() {
-        return Err(Failure::Usage("a command is missing".into()));
+fn chosen(arguments: Vec<OsString>) -> Result<Printed, Failure> {
+    match command_line().try_get_matches_from(arguments) {
+        Ok(read) => {
+            let (name, arguments) = read.subcommand().expect("clap has found a command");
+            let command =
+                COMMANDS.iter().find(|command| name == command.name).expect("a command of the table");
+            (command.run)(arguments)
+        }
+        Err(help) if help.kind() == ParseErrorKind::DisplayHelp => Ok(help.to_string().into()),
+        Err(error) => Err(Failure::Usage(words(&error))),
     }
-    let name = arguments.remove(0);
-    if asks_help(&name) || (name == "help" && arguments.is_empty()) {
-        return Ok(overview().into());
-    }
-    let (name, helps) = if name == "help" { (arguments.remove(0), true) } else { (name, false) };
-    let command = COMMANDS.iter().find(|command| name == command.name);
-    let command =
-        command.ok_or_else(|| Failure::Usage(format!("unknown command {}", name.to_string_lossy())))?;
-    if helps || arguments.iter().any(asks_help) {
-        return Ok(command_help(command).into());
-    }
-    (command.run)(Arguments::new(arguments))
+}
+
+fn command_line() -> clap::Command {
+    let commands = COMMANDS.iter().map(|command| {
+        clap::Command::new(command.name).override_help(command_help(command)).args((command.takes)())
+    });
+    let whole = clap::Command::new("clearance").no_binary_name(true).override_help(overview());
+    whole.subcommand_required(true).subcommands(commands)
 }
 
 fn overview() -> String {
@@ -173,21 +194,24 @@ fn command_help(command: &Command) -> String {
     format!("usage: clearance {} {}\n\n{}\n", command.name, command.arguments, command.help)
 }
 
-fn check(arguments: Arguments) -> Result<Printed, Failure> {
-    let [directory] = arguments.finish(["DIR"])?;
-    let (cells, corners) = files::read_tables(Path::new(&directory))?;
+/// The directory that a command was given.
+fn directory(arguments: &ArgMatches) -> &Path {
+    Path::new(taken::<OsString>(arguments, DIRECTORY))
+}
+
+fn check(arguments: &ArgMatches) -> Result<Printed, Failure> {
+    let (cells, corners) = files::read_tables(directory(arguments))?;
     Ok(match clearance::check(&cells, &corners) {
         Ok(()) => String::from("lawful\n").into(),
         Err(refusal) => Printed { text: refused(refusal) + "\n", status: 1 },
     })
 }
 
-fn draw(arguments: Arguments) -> Result<Printed, Failure> {
-    let [directory] = arguments.finish(["DIR"])?;
-    for path in files::missing(Path::new(&directory)) {
+fn draw(arguments: &ArgMatches) -> Result<Printed, Failure> {
+    for path in files::missing(directory(arguments)) {
         eprintln!("clearance: {} is missing and counts as empty", path.display());
     }
-    let survey = files::read_as_program(Path::new(&directory))?;
+    let survey = files::read_as_program(directory(arguments))?;
     Ok(match clearance::draw_to_vec(&survey.cells, &survey.corners, survey.clearance) {
         Ok(mesh) => formats::listing(&mesh).into(),
         Err(refusal) => {
@@ -197,18 +221,10 @@ fn draw(arguments: Arguments) -> Result<Printed, Failure> {
     })
 }
 
-fn enquire(arguments: Arguments) -> Result<Printed, Failure> {
-    let [directory, axis, x, y, z, length] = arguments.finish(["DIR", "AXIS", "X", "Y", "Z", "LENGTH"])?;
-    let axis = match axis.to_str() {
-        Some("x") => 0,
-        Some("y") => 1,
-        Some("z") => 2,
-        _ => number("AXIS (x, y, z or 0, 1, 2)", &axis)?,
-    };
-    let lower_end = [number("X", &x)?, number("Y", &y)?, number("Z", &z)?];
-    let length = number("LENGTH", &length)?;
-    let survey = files::read(Path::new(&directory))?;
-    let edge = clearance::enquire(&survey.cells, &survey.corners, survey.clearance, axis, lower_end, length)?;
+fn enquire(arguments: &ArgMatches) -> Result<Printed, Failure> {
+    let [axis, x, y, z, length] = [AXIS, "X", "Y", "Z", "LENGTH"].map(|name| *taken::<u32>(arguments, name));
+    let survey = files::read(directory(arguments))?;
+    let edge = clearance::enquire(&survey.cells, &survey.corners, survey.clearance, axis, [x, y, z], length)?;
     Ok(match edge {
         Edge::Even => String::from("even\n"),
         Edge::Crossing { number, place: [x, y, z] } => format!("crossing {number} {x} {y} {z}\n"),
@@ -216,40 +232,33 @@ fn enquire(arguments: Arguments) -> Result<Printed, Failure> {
     .into())
 }
 
-fn info(arguments: Arguments) -> Result<Printed, Failure> {
-    let [directory] = arguments.finish(["DIR"])?;
-    Ok(facts::facts(&files::read(Path::new(&directory))?)?.to_string().into())
+fn info(arguments: &ArgMatches) -> Result<Printed, Failure> {
+    Ok(facts::facts(&files::read(directory(arguments))?)?.to_string().into())
 }
 
-fn mesh(arguments: Arguments, format: fn(&Mesh) -> String) -> Result<Printed, Failure> {
-    let [directory] = arguments.finish(["DIR"])?;
-    Ok(format(&drawn(&files::read(Path::new(&directory))?)?).into())
+fn mesh(arguments: &ArgMatches, format: fn(&Mesh) -> String) -> Result<Printed, Failure> {
+    Ok(format(&drawn(&files::read(directory(arguments))?)?).into())
 }
 
 fn drawn(survey: &Survey) -> Result<Mesh, Failure> {
     Ok(clearance::draw_to_vec(&survey.cells, &survey.corners, survey.clearance)?)
 }
 
-fn render(mut arguments: Arguments) -> Result<Printed, Failure> {
-    let style = Style {
-        turn: arguments.take_degrees("--turn")?.unwrap_or(30.0),
-        tilt: arguments.take_degrees("--tilt")?.unwrap_or(35.0),
-        edges: arguments.take_flag("--edges"),
-        inside: arguments.take_flag("--inside"),
-        near: arguments.take_flag("--near"),
-    };
-    let shows_cells = arguments.take_flag("--cells");
-    let [directory, out] = arguments.finish(["DIR", "OUT"])?;
-    let out = PathBuf::from(out);
+fn render(arguments: &ArgMatches) -> Result<Printed, Failure> {
+    let [turn, tilt] = ["turn", "tilt"].map(|name| *taken(arguments, name));
+    let [edges, cells, inside, near] =
+        ["edges", "cells", "inside", "near"].map(|name| arguments.get_flag(name));
+    let style = Style { turn, tilt, edges, inside, near };
+    let out = Path::new(taken::<OsString>(arguments, "OUT"));
     let make: fn(&Scene) -> Vec<u8> = match out.extension().and_then(|end| end.to_str()) {
         Some("png") => picture::png,
         Some("svg") => |scene| svg::svg(scene).into_bytes(),
         _ => return Err(Failure::Usage(format!("{}: a picture's name ends in .png or .svg", out.display()))),
     };
-    let survey = files::read(Path::new(&directory))?;
+    let survey = files::read(directory(arguments))?;
     let mesh = drawn(&survey)?;
-    let lines = if shows_cells { cell_lines(&survey) } else { Vec::new() };
-    std::fs::write(&out, make(&Scene { mesh, lines, style })).map_err(Failure::of_file(&out))?;
+    let lines = if cells { cell_lines(&survey) } else { Vec::new() };
+    std::fs::write(out, make(&Scene { mesh, lines, style })).map_err(Failure::of_file(out))?;
     Ok(String::new().into())
 }
 
@@ -260,15 +269,14 @@ fn cell_lines(survey: &Survey) -> Vec<[Vector; 2]> {
     undivided.map(|edge| [edge.low(), edge.high()].map(|end| end.map(f64::from))).collect()
 }
 
-fn example(arguments: Arguments) -> Result<Printed, Failure> {
-    if arguments.is_empty() {
+fn example(arguments: &ArgMatches) -> Result<Printed, Failure> {
+    let Some(name) = arguments.get_one::<OsString>("NAME") else {
         let line = |example: &examples::Example| format!("{:<18} {}\n", example.name, example.words);
         return Ok(examples::EXAMPLES.iter().map(line).collect::<String>().into());
-    }
-    let [name, directory] = arguments.finish(["NAME", "DIR"])?;
+    };
     let found = name.to_str().and_then(examples::find);
     let unknown =
         || Failure::Usage(format!("no example {}; 'clearance example' lists them", name.to_string_lossy()));
-    files::write(Path::new(&directory), &(found.ok_or_else(unknown)?.survey)())?;
+    files::write(directory(arguments), &(found.ok_or_else(unknown)?.survey)())?;
     Ok(String::new().into())
 }

@@ -2,7 +2,6 @@
 
 use clearance::Mesh;
 
-use crate::png;
 use crate::raster::Raster;
 use crate::shading::{faces, mixed, outlines, Colour, Face, Light};
 use crate::view::{dot, Block, Camera, Vector};
@@ -121,7 +120,20 @@ pub fn png(scene: &Scene) -> Vec<u8> {
     veils.iter().for_each(|face| raster.veil(face.seen, VEIL, VEIL_PART));
     outlines.into_iter().for_each(|ends| raster.line(ends, LINE, TRIANGLE_LINE, 0.45));
     put_box(&mut raster, &camera, false);
-    png::file(WIDTH, HEIGHT, &raster.pixels())
+    file(WIDTH, HEIGHT, &raster.pixels())
+}
+
+/// The PNG file of a picture: three bytes a pixel, rows from the top.
+pub fn file(width: usize, height: usize, pixels: &[u8]) -> Vec<u8> {
+    let mut file = Vec::new();
+    let mut encoder = png::Encoder::new(&mut file, width as u32, height as u32);
+    encoder.set_color(png::ColorType::Rgb);
+    encoder.set_depth(png::BitDepth::Eight);
+    encoder.set_compression(png::Compression::Best);
+    encoder.set_adaptive_filter(png::AdaptiveFilterType::Adaptive);
+    let written = encoder.write_header().and_then(|mut writer| writer.write_image_data(pixels));
+    written.expect("three bytes a pixel, and a vector takes them all");
+    file
 }
 
 fn put_face(raster: &mut Raster, face: &Face, light: &Light) {

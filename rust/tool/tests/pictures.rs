@@ -1,20 +1,40 @@
 //! Pictures, read back.
 
 mod common;
-mod decoding;
 
 use std::collections::BTreeSet;
 
-use clearance_tool::deflate::zlib;
-use clearance_tool::picture::{HEIGHT, WIDTH};
-use clearance_tool::png;
+use clearance_tool::picture::{file, HEIGHT, WIDTH};
 use clearance_tool::view::{Block, Camera};
 use common::{printed, root, run, text, Place};
-use decoding::{inflate, picture, Picture};
 use surveys::random::Random;
 
 /// The most bytes of a picture in the project's documents.
 const MOST_BYTES: usize = 200 * 1024;
+
+/// A picture: three bytes a pixel, rows from the top.
+struct Picture {
+    width: usize,
+    height: usize,
+    pixels: Vec<u8>,
+}
+
+impl Picture {
+    fn pixel(&self, column: usize, row: usize) -> [u8; 3] {
+        let at = 3 * (row * self.width + column);
+        self.pixels[at..at + 3].try_into().expect("three bytes")
+    }
+}
+
+/// Reads a PNG file of eight bits each of red, green and blue.
+fn picture(file: &[u8]) -> Picture {
+    let mut reader = png::Decoder::new(file).read_info().expect("a PNG file");
+    let mut pixels = vec![0; reader.output_buffer_size()];
+    let png::OutputInfo { width, height, color_type, bit_depth, .. } =
+        reader.next_frame(&mut pixels).expect("a picture");
+    assert_eq!((color_type, bit_depth), (png::ColorType::Rgb, png::BitDepth::Eight));
+    Picture { width: width as usize, height: height as usize, pixels }
+}
 
 fn rendered(place: &Place, directory: &str, options: &[&str]) -> Picture {
     let out = place.below("picture.png");
@@ -27,24 +47,12 @@ fn twin() -> String {
 }
 
 #[test]
-fn streams_unpack_to_what_was_packed() {
-    let mut random = Random::new(1);
-    let noise: Vec<u8> = (0..70_000).map(|_| random.below(256) as u8).collect();
-    let runs: Vec<u8> = (0..200_000).map(|at| (at / 7_000) as u8).collect();
-    let steps: Vec<u8> = (0..100_000).map(|at: usize| (at % 251 % 16) as u8).collect();
-    for bytes in [&[][..], b"a", b"aaaa", b"abcabcabcabd", &[0; 1_000], &noise, &runs, &steps] {
-        assert!(inflate(&zlib(bytes)) == bytes, "{} bytes", bytes.len());
-    }
-    assert!(zlib(&runs).len() < 4_000);
-}
-
-#[test]
 fn pixels_read_back() {
     let mut random = Random::new(2);
     let noise: Vec<u8> = (0..3 * 17 * 9).map(|_| random.below(256) as u8).collect();
     let ramp: Vec<u8> = (0..3 * 17 * 9).map(|at| (at % 51 + at / 51 * 5) as u8).collect();
     for pixels in [noise, ramp] {
-        let read = picture(&png::file(17, 9, &pixels));
+        let read = picture(&file(17, 9, &pixels));
         assert_eq!((read.width, read.height), (17, 9));
         assert_eq!(read.pixels, pixels);
     }
