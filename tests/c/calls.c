@@ -12,6 +12,11 @@
 
 static const uint8_t cells[4] = {0, 0, 0, 0};
 
+/* What stands in lent slices before: NaNs, quiet and signalling, of both signs and several payloads, and numbers of no point. Bits are compared. */
+static const uint32_t float_bits[10] = {
+    0x7fc00000, 0x7f800001, 0xffc00000, 0xff800001, 0x7fffffff, 0xffffffff, 0x7fa5a5a5, 0xffb3c4d5, 0x7fd00d1e, 0xff812345};
+static const uint32_t numbers[4] = {0xdeadbeef, 0xffffffff, 0x80000000, 0x7f800001};
+
 static void expect(int holds, const char *condition, int line)
 {
     if (!holds) {
@@ -70,21 +75,35 @@ static void enquiries(const uint8_t *corners)
     EXPECT(is_number_alone(clearance_enquire(cells, 4, corners, 80, 2e6f, 0, 0, 0, 0, 1024), CLEARANCE_CLEARANCE));
 }
 
+/* Draws into slices of at most 10 and 4 elements, which a refusal must leave as they were. */
+static void draw_refused(const uint8_t *corners, float clearance, size_t points_length, size_t triangles_length, struct clearance_counts expected)
+{
+    float points[10];
+    uint32_t triangles[4];
+    memcpy(points, float_bits, sizeof points);
+    memcpy(triangles, numbers, sizeof triangles);
+    struct clearance_counts refused = clearance_draw(cells, 4, corners, 80, clearance, points, points_length, triangles, triangles_length);
+    EXPECT(refused.number == expected.number && refused.points == expected.points && refused.triangles == expected.triangles);
+    EXPECT(memcmp(points, float_bits, sizeof points) == 0 && memcmp(triangles, numbers, sizeof triangles) == 0);
+}
+
 /* Point and triangle slices of no elements, too few, and more than are needed. */
 static void drawings(const uint8_t *corners)
 {
     struct clearance_counts needed = clearance_draw(cells, 4, corners, 80, 0.0f, NULL, 0, NULL, 0);
     EXPECT(needed.number == CLEARANCE_POINT_SLICE && needed.points == 3 && needed.triangles == 1);
-    float points[10] = {0};
-    uint32_t triangles[4] = {7, 7, 7, 7};
-    struct clearance_counts refused = clearance_draw(cells, 4, corners, 80, 0.0f, points, 10, triangles, 2);
-    EXPECT(refused.number == CLEARANCE_TRIANGLE_SLICE && refused.points == 3 && refused.triangles == 1);
-    static const float nothing[10] = {0};
-    EXPECT(memcmp(points, nothing, sizeof points) == 0 && triangles[0] == 7);
+    draw_refused(corners, 2e6f, 10, 4, (struct clearance_counts){CLEARANCE_CLEARANCE, 0, 0});
+    draw_refused(corners, 0.0f, 8, 4, (struct clearance_counts){CLEARANCE_POINT_SLICE, 3, 1});
+    draw_refused(corners, 0.0f, 10, 2, (struct clearance_counts){CLEARANCE_TRIANGLE_SLICE, 3, 1});
+    float points[10];
+    uint32_t triangles[4];
+    memcpy(points, float_bits, sizeof points);
+    memcpy(triangles, numbers, sizeof triangles);
     struct clearance_counts drawn = clearance_draw(cells, 4, corners, 80, 0.0f, points, 10, triangles, 4);
     EXPECT(drawn.number == 0 && drawn.points == 3 && drawn.triangles == 1);
-    EXPECT(points[0] == 768.0f && points[4] == 768.0f && points[8] == 768.0f && points[9] == 0.0f);
-    EXPECT(triangles[0] == 0 && triangles[1] == 1 && triangles[2] == 2 && triangles[3] == 7);
+    static const float places[9] = {768.0f, 0.0f, 0.0f, 0.0f, 768.0f, 0.0f, 0.0f, 0.0f, 768.0f};
+    EXPECT(memcmp(points, places, sizeof places) == 0 && memcmp(points + 9, float_bits + 9, sizeof(float)) == 0);
+    EXPECT(triangles[0] == 0 && triangles[1] == 1 && triangles[2] == 2 && triangles[3] == numbers[3]);
 }
 
 /* Lends a table with a length of one byte more than it has. */

@@ -1,41 +1,41 @@
-//! The compiled drawing against the independent Rust drawing, bit for bit, with guard elements around both slices; and demand 3 counted on what came
-//! back. Each failure names the seed that makes the survey again. `CLEARANCE_SMALL` and `CLEARANCE_LARGE` set how many random surveys are drawn.
+//! The compiled drawing against the independent Rust drawing, bit for bit, with guard elements around both slices and NaNs of many patterns in them
+//! beforehand; and demand 3 counted on what came back. Each failure names the seed that makes the survey again. `CLEARANCE_SMALL` and
+//! `CLEARANCE_LARGE` set how many random surveys are drawn.
 
 mod number;
+
+use std::ops::Range;
 
 use clearance::{Counts, Refused};
 use drawing::Drawn;
 use number::number;
+use surveys::lent::{self, bits};
 use surveys::{closing, damage, document, generate, Survey};
 
-/// What stands in the slices before, and around them.
-const FLOAT: f32 = -7.5;
-const NUMBER: u32 = 0xdead_beef;
+/// So many elements stand before each slice and behind it.
 const GUARD: usize = 5;
 
-/// A drawing into slices of these lengths, with guards around them. Panics if an element outside was touched.
-fn drawn(survey: &Survey, points: usize, triangles: usize, what: &str) -> Slices {
-    let mut floats = vec![FLOAT; points + 2 * GUARD];
-    let mut numbers = vec![NUMBER; triangles + 2 * GUARD];
-    let Survey { cells, corners, clearance } = survey;
+/// A drawing into slices of these lengths, with guards around them. Panics if an element was touched that is not of the drawing, or any by a refusal.
+fn drawn(
+    draw: impl FnOnce(&mut [f32], &mut [u32]) -> Drawn,
+    points: usize,
+    triangles: usize,
+    what: &str,
+) -> Slices {
+    let (mut floats, mut numbers) = (lent::floats(points + 2 * GUARD), lent::numbers(triangles + 2 * GUARD));
+    let before = [bits(&floats), numbers.clone()];
     let (lent_floats, lent_numbers) = (GUARD..GUARD + points, GUARD..GUARD + triangles);
-    let result = clearance::draw(
-        cells,
-        corners,
-        *clearance,
-        &mut floats[lent_floats.clone()],
-        &mut numbers[lent_numbers.clone()],
-    );
-    let untouched = |at: usize, length: usize| at < GUARD || at >= GUARD + length;
-    assert!(
-        floats.iter().enumerate().all(|(at, &x)| x == FLOAT || !untouched(at, points)),
-        "{what}: floats around the slice"
-    );
-    assert!(
-        numbers.iter().enumerate().all(|(at, &n)| n == NUMBER || !untouched(at, triangles)),
-        "{what}: numbers around the slice"
-    );
-    (numbers_of(result), floats[lent_floats].to_vec(), numbers[lent_numbers].to_vec())
+    let result = draw(&mut floats[lent_floats.clone()], &mut numbers[lent_numbers.clone()]);
+    let count = |count: u32| if result.number == 0 { 3 * count as usize } else { 0 };
+    assert_untouched(&before[0], &bits(&floats), GUARD..GUARD + count(result.points), what);
+    assert_untouched(&before[1], &numbers, GUARD..GUARD + count(result.triangles), what);
+    (result, floats[lent_floats].to_vec(), numbers[lent_numbers].to_vec())
+}
+
+/// Only elements in this range may have changed.
+fn assert_untouched(before: &[u32], after: &[u32], written: Range<usize>, what: &str) {
+    assert_eq!(before[..written.start], after[..written.start], "{what}: elements before the slice");
+    assert_eq!(before[written.end..], after[written.end..], "{what}: elements past the last");
 }
 
 /// A result as the numbers that document 01 has it return.
@@ -46,15 +46,16 @@ fn numbers_of(result: Result<Counts, Refused>) -> Drawn {
 
 /// Draws with both drawings into slices of these lengths; result and slices must be the same bits.
 fn assert_same(survey: &Survey, points: usize, triangles: usize, what: &str) -> Slices {
-    let (result, floats, numbers) = drawn(survey, points, triangles, what);
-    let (mut expected_floats, mut expected_numbers) = (vec![FLOAT; points], vec![NUMBER; triangles]);
     let Survey { cells, corners, clearance } = survey;
-    let expected = drawing::draw(cells, corners, *clearance, &mut expected_floats, &mut expected_numbers);
+    let compiled = |floats: &mut [f32], numbers: &mut [u32]| {
+        numbers_of(clearance::draw(cells, corners, *clearance, floats, numbers))
+    };
+    let independent =
+        |floats: &mut [f32], numbers: &mut [u32]| drawing::draw(cells, corners, *clearance, floats, numbers);
+    let (result, floats, numbers) = drawn(compiled, points, triangles, what);
+    let (expected, expected_floats, expected_numbers) = drawn(independent, points, triangles, what);
     assert_eq!(result, expected, "{what}: result");
-    assert!(
-        floats.iter().map(|x| x.to_bits()).eq(expected_floats.iter().map(|x| x.to_bits())),
-        "{what}: points"
-    );
+    assert!(bits(&floats) == bits(&expected_floats), "{what}: points");
     assert_eq!(numbers, expected_numbers, "{what}: triangles");
     (result, floats, numbers)
 }
@@ -87,10 +88,7 @@ fn assert_vectors(survey: &Survey, floats: &[f32], numbers: &[u32], what: &str) 
     assert_eq!(counts.point_elements(), floats.len(), "{what}");
     assert_eq!(counts.triangle_elements(), numbers.len(), "{what}");
     let mesh = clearance::draw_to_vec(cells, corners, *clearance).expect(what);
-    assert!(
-        mesh.points.concat().iter().map(|x| x.to_bits()).eq(floats.iter().map(|x| x.to_bits())),
-        "{what}: points in a vector"
-    );
+    assert!(bits(mesh.points.as_flattened()) == bits(floats), "{what}: points in a vector");
     assert_eq!(mesh.triangles.concat(), numbers, "{what}: triangles in a vector");
 }
 
@@ -147,8 +145,8 @@ fn six_volumes(survey: &Survey) -> f64 {
     mesh.triangles.iter().map(determinant).sum()
 }
 
-/// Triangles turn counter-clockwise seen from the dry side, so that the wet space counts as positive. It may be nothing, where every wet sounding is
-/// the clearance.
+/// The surface as a whole turns counter-clockwise seen from the dry side, so that the wet space counts as positive. It may be nothing, where every wet
+/// sounding is the clearance.
 #[test]
 fn surveys_with_a_dry_outside_close_everywhere() {
     let mut spaces = 0;

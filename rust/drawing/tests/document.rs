@@ -1,6 +1,7 @@
 //! The surveys of document 01, "Surveys to try", and the small ones beside them.
 
 use drawing::{check, draw, draw_to_vec, enquire, Drawn, Edge};
+use surveys::lent::{self, bits};
 use surveys::{closing, document, Survey};
 
 fn refusal(survey: &Survey) -> u32 {
@@ -15,9 +16,7 @@ fn ask(survey: &Survey, axis: u32, [x, y, z]: [u32; 3], length: u32) -> Result<E
 fn drawings_are_exactly_those_of_the_document() {
     for document::Drawn { name, survey, points, triangles } in document::drawn() {
         let drawing = draw_to_vec(&survey.cells, &survey.corners, survey.clearance).expect(name);
-        let bits: Vec<u32> = drawing.points.iter().map(|coordinate| coordinate.to_bits()).collect();
-        let expected: Vec<u32> = points.concat().iter().map(|coordinate| coordinate.to_bits()).collect();
-        assert_eq!(bits, expected, "{name}: points {:?}", drawing.points);
+        assert_eq!(bits(&drawing.points), bits(&points.concat()), "{name}: points {:?}", drawing.points);
         assert_eq!(drawing.triangles, triangles.concat(), "{name}: triangles");
         assert_eq!(closing::check(&survey, &drawing.points, &drawing.triangles), Ok(()), "{name}");
     }
@@ -41,10 +40,10 @@ fn the_surveys_have_the_sizes_that_the_document_gives() {
     assert_eq!(document::too_many_cells().cells.len(), 8_200);
 }
 
-/// Draws the survey with only the centre wet into slices of these lengths, filled with −7 and 7.
+/// Draws the survey with only the centre wet into slices of these lengths.
 fn draw_centre(point_room: usize, triangle_room: usize) -> (Drawn, Vec<f32>, Vec<u32>) {
     let Survey { cells, corners, clearance } = document::centre_wet();
-    let (mut points, mut triangles) = (vec![-7.0; point_room], vec![7; triangle_room]);
+    let (mut points, mut triangles) = (lent::floats(point_room), lent::numbers(triangle_room));
     let drawn = draw(&cells, &corners, clearance, &mut points, &mut triangles);
     (drawn, points, triangles)
 }
@@ -63,8 +62,8 @@ fn a_point_slice_of_17_is_refusal_9() {
     for triangle_room in [24, 23] {
         let (drawn, points, triangles) = draw_centre(17, triangle_room);
         assert_eq!(drawn, Drawn { number: 9, points: 6, triangles: 8 });
-        assert_eq!(points, vec![-7.0; 17]);
-        assert_eq!(triangles, vec![7; triangle_room]);
+        assert_eq!(bits(&points), bits(&lent::floats(17)));
+        assert_eq!(triangles, lent::numbers(triangle_room));
     }
 }
 
@@ -72,16 +71,16 @@ fn a_point_slice_of_17_is_refusal_9() {
 fn a_triangle_slice_of_23_is_refusal_10() {
     let (drawn, points, triangles) = draw_centre(18, 23);
     assert_eq!(drawn, Drawn { number: 10, points: 6, triangles: 8 });
-    assert_eq!(points, vec![-7.0; 18]);
-    assert_eq!(triangles, vec![7; 23]);
+    assert_eq!(bits(&points), bits(&lent::floats(18)));
+    assert_eq!(triangles, lent::numbers(23));
 }
 
 #[test]
 fn elements_past_the_last_are_untouched() {
     let (drawn, points, triangles) = draw_centre(25, 30);
     assert_eq!(drawn.number, 0);
-    assert_eq!(points[18..], [-7.0; 7]);
-    assert_eq!(triangles[24..], [7; 6]);
+    assert_eq!(bits(&points[18..]), bits(&lent::floats(25)[18..]));
+    assert_eq!(triangles[24..], lent::numbers(30)[24..]);
 }
 
 #[test]

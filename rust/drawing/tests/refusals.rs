@@ -1,15 +1,25 @@
 //! Damaged surveys: each meets the refusal it must, by every call, and no lent slice is touched.
 
 use drawing::{check, draw, enquire, Drawn};
+use surveys::lent::{self, bits};
 use surveys::{damage, generate, refusals, Survey};
+
+/// Draws into slices of these lengths. A refused drawing must leave every bit of both as it was.
+fn drawn(survey: &Survey, point_room: usize, triangle_room: usize, what: &str) -> Drawn {
+    let Survey { cells, corners, clearance } = survey;
+    let (mut points, mut triangles) = (lent::floats(point_room), lent::numbers(triangle_room));
+    let drawn = draw(cells, corners, *clearance, &mut points, &mut triangles);
+    if drawn.number != 0 {
+        assert_eq!(bits(&points), bits(&lent::floats(point_room)), "{what}: lent points");
+        assert_eq!(triangles, lent::numbers(triangle_room), "{what}: lent triangles");
+    }
+    drawn
+}
 
 /// Asks every call about a survey that meets this refusal of 1 to 8.
 fn assert_refused(survey: &Survey, refusal: u32, what: &str) {
     let Survey { cells, corners, clearance } = survey;
-    let (mut points, mut triangles) = ([-7.0; 64], [7; 64]);
-    let drawn = draw(cells, corners, *clearance, &mut points, &mut triangles);
-    assert_eq!(drawn, Drawn { number: refusal, points: 0, triangles: 0 }, "{what}");
-    assert_eq!((points, triangles), ([-7.0; 64], [7; 64]), "{what}: lent slices");
+    assert_eq!(drawn(survey, 64, 64, what), Drawn { number: refusal, points: 0, triangles: 0 }, "{what}");
     assert_eq!(check(cells, corners), if refusal == 8 { 0 } else { refusal }, "{what}: by itself");
     let enquiry = enquire(cells, corners, *clearance, 0, 0, 0, 0, 1024);
     assert_eq!(enquiry, Err(refusal), "{what}: enquiry");
@@ -63,23 +73,19 @@ fn generated_surveys_are_lawful() {
 #[test]
 fn short_slices_are_refused_with_both_counts() {
     for seed in 0..500 {
-        let Survey { cells, corners, clearance } = generate::small_survey(seed, 4);
-        let attempt = |point_room: usize, triangle_room: usize| {
-            let (mut points, mut triangles) = (vec![-7.0; point_room], vec![7; triangle_room]);
-            let drawn = draw(&cells, &corners, clearance, &mut points, &mut triangles);
-            let touched = points.iter().any(|&point| point != -7.0) || triangles.iter().any(|&n| n != 7);
-            assert!(drawn.number == 0 || !touched, "seed {seed}: lent slices");
-            drawn
-        };
+        let survey = generate::small_survey(seed, 4);
+        let what = format!("seed {seed}");
+        let attempt =
+            |point_room: usize, triangle_room: usize| drawn(&survey, point_room, triangle_room, &what);
         let Drawn { number, points, triangles } = attempt(1 << 12, 1 << 14);
-        assert_eq!(number, 0, "seed {seed}");
+        assert_eq!(number, 0, "{what}");
         let (point_room, triangle_room) = (3 * points as usize, 3 * triangles as usize);
-        let drawn = |number| Drawn { number, points, triangles };
-        assert_eq!(attempt(point_room, triangle_room), drawn(0), "seed {seed}");
+        let counts = |number| Drawn { number, points, triangles };
+        assert_eq!(attempt(point_room, triangle_room), counts(0), "{what}");
         if points > 0 {
-            assert_eq!(attempt(point_room - 1, triangle_room), drawn(9), "seed {seed}");
-            assert_eq!(attempt(0, 0), drawn(9), "seed {seed}");
-            assert_eq!(attempt(point_room, triangle_room - 1), drawn(10), "seed {seed}");
+            assert_eq!(attempt(point_room - 1, triangle_room), counts(9), "{what}");
+            assert_eq!(attempt(0, 0), counts(9), "{what}");
+            assert_eq!(attempt(point_room, triangle_room - 1), counts(10), "{what}");
         }
     }
 }

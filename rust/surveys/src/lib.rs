@@ -4,6 +4,7 @@
 //! - [`generate`]: random lawful surveys, each from one seed.
 //! - [`sized`]: surveys of a given number of splits, a kind for each shape that a drawing may be slow on.
 //! - [`damage`]: random damaged surveys, each with the refusal it must meet.
+//! - [`lent`]: what stands in lent slices before a drawing, to see what it touches.
 //! - [`refusals`], [`plain`], [`closing`]: document 01's checks, its edges and points, and its section "What
 //!   closing says", written for the reader and not for speed, and with nothing shared with any drawing.
 
@@ -11,6 +12,7 @@ pub mod closing;
 pub mod damage;
 pub mod document;
 pub mod generate;
+pub mod lent;
 mod long_loop;
 pub mod plain;
 pub mod random;
