@@ -108,8 +108,11 @@ struct clearance_counts {
  * Draws the surface of a survey at a clearance, from the front of both slices on: for each point x, y and z, for each triangle the numbers of its three
  * points, counted from 0. So `points` must have 3 elements for each point and `triangles` 3 for each triangle. Elements past the last are untouched.
  *
- * Points rise by the axis of their edge (x, y, z), then by its lower end's z, y, x. Triangles come by the record number of their leaf, and turn
- * counter-clockwise seen from the dry side.
+ * Points rise by the axis of their edge (x, y, z), then by its lower end's z, y, x. Triangles come by the record number of their leaf.
+ *
+ * Each loop runs with wet corners on its right, seen from outside its leaf, so the surface as a whole turns counter-clockwise seen from the dry side: where
+ * the box's outside is dry, the signed volume inside is not negative. This is tested, not proved. A single triangle of the fan over a bent loop may turn
+ * the other way.
  *
  * To learn how long the slices must be, call with two slices of 0 elements: the result is 9 or 10 with both counts, or 0 where there is nothing to draw.
  */

@@ -82,6 +82,8 @@ impl From<Refused> for Refusal {
 pub struct Mesh {
     /// x, y and z of each point, by point number.
     pub points: Vec<[f32; 3]>,
-    /// The point numbers of each triangle, in the order of document 01. Triangles turn counter-clockwise seen from the dry side.
+    /// The point numbers of each triangle, in the order of document 01. Each loop runs with wet corners on its right, seen from outside its leaf, so
+    /// the surface as a whole turns counter-clockwise seen from the dry side. This is tested, not proved, and a single triangle of the fan over a bent
+    /// loop may turn the other way.
     pub triangles: Vec<[u32; 3]>,
 }

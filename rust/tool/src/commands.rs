@@ -90,8 +90,8 @@ const COMMANDS: [Command; 8] = [
         name: "obj",
         arguments: "DIR",
         summary: "write the surface as Wavefront OBJ",
-        help: "Prints the surface as Wavefront OBJ. Decimal numbers read back as the same binary32. Triangles go\n\
-               counter-clockwise seen from the dry side. A missing file is an error.",
+        help: "Prints the surface as Wavefront OBJ. Decimal numbers read back as the same binary32. As a whole the surface\n\
+               turns counter-clockwise seen from the dry side; a single triangle may turn the other way. A missing file is an error.",
         takes: || vec![path(DIRECTORY)],
         run: |arguments| mesh(arguments, formats::obj),
     },
@@ -99,8 +99,8 @@ const COMMANDS: [Command; 8] = [
         name: "ply",
         arguments: "DIR",
         summary: "write the surface as PLY (ascii)",
-        help: "Prints the surface as PLY, ascii 1.0. Decimal numbers read back as the same binary32. Triangles go\n\
-               counter-clockwise seen from the dry side. A missing file is an error.",
+        help: "Prints the surface as PLY, ascii 1.0. Decimal numbers read back as the same binary32. As a whole the surface\n\
+               turns counter-clockwise seen from the dry side; a single triangle may turn the other way. A missing file is an error.",
         takes: || vec![path(DIRECTORY)],
         run: |arguments| mesh(arguments, formats::ply),
     },

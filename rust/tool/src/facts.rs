@@ -60,7 +60,7 @@ pub fn runs([a, b, c]: &[u32; 3]) -> [[u32; 2]; 3] {
     [[*a, *b], [*b, *c], [*c, *a]]
 }
 
-/// The space inside a closed surface, by the tetrahedra from the origin to each triangle. Triangles face the dry side.
+/// The space inside a closed surface, by the tetrahedra from the origin to each triangle. The surface as a whole faces the dry side.
 pub fn volume(mesh: &Mesh) -> f64 {
     let place = |point: u32| mesh.points[point as usize].map(f64::from);
     let six_times = |triangle: &[u32; 3]| {
