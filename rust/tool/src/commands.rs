@@ -46,6 +46,22 @@ struct Command {
     run: fn(&ArgMatches) -> Result<Printed, Failure>,
 }
 
+fn directory_alone() -> Vec<Arg> {
+    vec![path(DIRECTORY)]
+}
+
+/// The help of a command that prints the surface in a format.
+macro_rules! mesh_help {
+    ($format:literal) => {
+        concat!(
+            "Prints the surface as ",
+            $format,
+            ". Decimal numbers read back as the same binary32. As a whole the surface\n\
+             turns counter-clockwise seen from the dry side; a single triangle may turn the other way. A missing file is an error."
+        )
+    };
+}
+
 const COMMANDS: [Command; 8] = [
     Command {
         name: "check",
@@ -53,7 +69,7 @@ const COMMANDS: [Command; 8] = [
         summary: "say whether a survey is lawful",
         help: "Prints 'lawful', or 'refused', the number of the first refusal of 1 to 7 that applies, and its words.\n\
                Reads cells and corners; the clearance is not looked at. A missing file is an error.",
-        takes: || vec![path(DIRECTORY)],
+        takes: directory_alone,
         run: check,
     },
     Command {
@@ -64,7 +80,7 @@ const COMMANDS: [Command; 8] = [
                of x, y and z in hexadecimal; a line 't' for each triangle with its point numbers. On refusal prints\n\
                'refused' and the number, and the words on standard error. There is no limit on points and triangles.\n\
                A missing file counts as empty, as it does for that program.",
-        takes: || vec![path(DIRECTORY)],
+        takes: directory_alone,
         run: draw,
     },
     Command {
@@ -83,25 +99,23 @@ const COMMANDS: [Command; 8] = [
         help: "Prints the cell records, the greatest depth, the leaves, corners, points and triangles, and whether the\n\
                surface is closed at the box. If so, prints the volume inside; the whole box has 1073741824. A missing file is\n\
                an error.",
-        takes: || vec![path(DIRECTORY)],
+        takes: directory_alone,
         run: info,
     },
     Command {
         name: "obj",
         arguments: "DIR",
         summary: "write the surface as Wavefront OBJ",
-        help: "Prints the surface as Wavefront OBJ. Decimal numbers read back as the same binary32. As a whole the surface\n\
-               turns counter-clockwise seen from the dry side; a single triangle may turn the other way. A missing file is an error.",
-        takes: || vec![path(DIRECTORY)],
+        help: mesh_help!("Wavefront OBJ"),
+        takes: directory_alone,
         run: |arguments| mesh(arguments, formats::obj),
     },
     Command {
         name: "ply",
         arguments: "DIR",
         summary: "write the surface as PLY (ascii)",
-        help: "Prints the surface as PLY, ascii 1.0. Decimal numbers read back as the same binary32. As a whole the surface\n\
-               turns counter-clockwise seen from the dry side; a single triangle may turn the other way. A missing file is an error.",
-        takes: || vec![path(DIRECTORY)],
+        help: mesh_help!("PLY, ascii 1.0"),
+        takes: directory_alone,
         run: |arguments| mesh(arguments, formats::ply),
     },
     Command {
