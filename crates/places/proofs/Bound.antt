@@ -13,14 +13,14 @@ use lib.Pow.{pow-pos}
 use lib.Ieee.{Float, inf, fin, binary32, mul, le, ofInt, fits}
 use lib.Ieee.Bits.{is-true}
 use lib.Ieee.Scale.{finite}
-use Rattle.base.specs.Grid.{Place, Axis, X, Y, Z, along, move}
+use Rattle.base.specs.Grid.{Place, Axis, X, Y, Z, next, along, move}
 use Rattle.base.proofs.Tests.{and→, true→, false→}
 use Rattle.base.proofs.Places.{along-put}
 use Rattle.rounding.proofs.Order.{Between, le→Le, not-le→Lt, lt-le, Le, Lt}
-use Rattle.rounding.proofs.Rounds.{AtMost, whole-is}
+use Rattle.rounding.proofs.Rounds.{AtMost, whole-is, between-wider}
 use Rattle.rounding.proofs.Parts.{part, mul-at-most, add-between, sub-between}
 use Rattle.rules.specs.Survey.{placeOf, cornerAt, wet, wetAt}
-use Rattle.rules.specs.Edges.{CellEdge, upperEnd, odd, float, fraction, moving, Spot, spot, spotOn, coordinate, OnEdge}
+use Rattle.rules.specs.Edges.{CellEdge, edge, upperEnd, odd, float, fraction, moving, Spot, spot, spotOn, coordinate, OnEdge}
 use Rattle.rules.specs.Outputs.{inRange}
 use Rattle.rules.specs.declared.Corner.{Corner}
 use Rattle.places.proofs.Reckoned.{way, moving-up, moving-down, corner-place}
@@ -156,3 +156,34 @@ module _ (corners : List Corner) (clearance : Float) (e : CellEdge) where
           rw q
           (down-between clearance (e .axis) (along (e .axis) (e .low)) (2 ^ e .level) upper lower fit
           (record { clear = c; dry-end = u; wet-end = l; is-dry = q; is-wet = p }) at-upper at-lower)
+
+-- ---- an edge on a longer one
+
+-- a spot has its own coordinate on the axis, and the place's on the two others
+spot-across : (a : Axis) (v : Float) (p q : Place) → along (next a) p ≡ along (next a) q → along (next (next a)) p ≡ along (next (next a)) q
+    → spot a v p ≡ spot a v q
+unfolding spot
+spot-across X v p q e f = λ i. record { x = v; y = float (e i); z = float (f i) }
+spot-across Y v p q e f = λ i. record { x = float (f i); y = v; z = float (e i) }
+spot-across Z v p q e f = λ i. record { x = float (e i); y = float (f i); z = v }
+
+-- the edge of level l at q lies on that of level k at p
+pub record Part (a : Axis) (p : Place) (k : ℕ) (q : Place) (l : ℕ) : Type 0 where
+  pub from : along a p ≤ along a q
+  pub to : along a q + 2 ^ l ≤ along a p + 2 ^ k
+  pub first : along (next a) q ≡ along (next a) p
+  pub second : along (next (next a)) q ≡ along (next (next a)) p
+
+-- what is on a part of an edge is on the edge
+pub on-whole : (a : Axis) (p : Place) (k : ℕ) (q : Place) (l : ℕ) → Part a p k q l → along a p + 2 ^ k ≤ 2 ^ 24 → (s : Spot)
+    → OnEdge (edge a q l) s → OnEdge (edge a p k) s
+unfolding OnEdge float
+on-whole a p k q l part fit s (lower, upper, across) =
+    let v = coordinate a s in
+    let inner : Between binary32 (along a q) (along a q + 2 ^ l) v =
+    (lower, subst (λ n. T (le v (float n))) (along-put a (along a q + 2 ^ l) q) upper) in
+    let outer = between-wider binary32 (along a q) (along a q + 2 ^ l) (along a p) (along a p + 2 ^ k) v (part .from) (omega arith) (part .to) fit inner in (
+      outer .0,
+      subst (λ n. T (le v (float n))) (sym (along-put a (along a p + 2 ^ k) p)) (outer .1),
+      across ∙ spot-across a v q p (part .first) (part .second),
+    )

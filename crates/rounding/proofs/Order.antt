@@ -4,7 +4,7 @@ use Prim.Native.Nat.{ℕ, _+_, _*_, _≤_, _<_}
 use mathlib.Core.Path.{_≡_, refl, sym, _∙_, subst}
 use mathlib.Core.Logic.{inl, inr, _⊎_}
 use mathlib.Core.Bool.{Bool, true, false, _&&_, _||_}
-use native.Mathlib.Nat.{le-of-eq, eq-or-lt-of-le, mul-le-mul-right, mul-lt-mul-of-pos-right, lt-of-mul-lt-mul-right}
+use native.Mathlib.Nat.{le-of-eq, eq-or-lt-of-le, mul-le-mul-right, mul-lt-mul-of-pos-right, lt-of-mul-lt-mul-right, le-of-mul-le-mul-right}
 use native.Mathlib.Omega.{arith}
 use lib.IntN.{pos}
 use lib.Dec.{T, leb, ltb, eqb, leb→le, le→leb, ltb→lt, lt→ltb, eqb→eq}
@@ -115,3 +115,14 @@ module _ (x y : Float) (p : T (finite x)) (q : T (finite y)) where
 
 pub lt-le : (x y z : Float) → Lt x y → Le y z → Lt x z
 lt-le x y z h k = lt-of-mul-lt-mul-right (den y) (omega (arith, mul-lt-mul-of-pos-right h (den-pos z), mul-le-mul-right (den x) k))
+
+pub le-le : (x y z : Float) → Le x y → Le y z → Le x z
+le-le x y z h k = le-of-mul-le-mul-right {k = den y} (omega (arith, mul-le-mul-right (den z) h, mul-le-mul-right (den x) k)) (den-pos y)
+
+-- what lies between two finite floats is finite
+pub finite-between : (x v y : Float) → T (finite x) → T (finite y) → T (le x v) → T (le v y) → T (finite v)
+unfolding le
+finite-between (fin s m e) nan (fin u n d) p q a b = absurd a
+finite-between (fin s m e) (inf true) (fin u n d) p q a b = absurd a
+finite-between (fin s m e) (inf false) (fin u n d) p q a b = absurd b
+finite-between (fin s m e) (fin t k c) (fin u n d) p q a b = tt

@@ -31,7 +31,7 @@ use lib.Ieee.Order.{round-mono}
 use lib.Ieee.Scale.{finite}
 use lib.Ieee.Positive.{num, den, positive}
 use borrow.Author.Tests.{le-ltb, lt-ltb, ne-eqb}
-use Rattle.rounding.proofs.Order.{hi, lo, Le, Between, le→Le, Le→le}
+use Rattle.rounding.proofs.Order.{hi, lo, Le, Between, le→Le, Le→le, le-le, finite-between}
 
 -- r is n / d, not below zero, rounded once; only a zero can have the sign, as -0 - 0 has
 abbrev pub Rounds : Format → Float → ℕ → ℕ → Type 0
@@ -230,3 +230,24 @@ rounded-between f r n d low high D k L H a b =
         let x = ofInt f (pos low) in
         let zero : hi x ≡ 0 = v .2 ∙ ap (λ (i : ℕ). i * den x) (none (z refl)) ∙ zero-mul (den x) in
         Le→le x r (v .0) (m .0) (rw (zero, m .1) (omega arith))
+
+-- a number between two whole ones lies between every lower and every higher one
+pub between-wider : (f : Format) (low high from to : ℕ) (r : Float) → from ≤ low → low ≤ high → high ≤ to → to ≤ 2 ^ prec f
+    → Between f low high r → Between f from to r
+between-wider f low high from to r a b c fit (h, k) =
+    let wl = whole-is f low (omega arith) in
+    let wh = whole-is f high (omega arith) in
+    let wf = whole-is f from (omega arith) in
+    let wt = whole-is f to fit in
+    let x = ofInt f (pos low) in
+    let y = ofInt f (pos high) in
+    let finite-r = finite-between x r y (wl .0) (wh .0) h k in (
+      Le→le (ofInt f (pos from)) r (wf .0) finite-r
+          (le-le (ofInt f (pos from)) x r (whole-le (ofInt f (pos from)) x from low wf wl a) (le→Le x r (wl .0) finite-r (is-true _ h))),
+      Le→le r (ofInt f (pos to)) finite-r (wt .0)
+          (le-le r y (ofInt f (pos to)) (le→Le r y finite-r (wh .0) (is-true _ k)) (whole-le y (ofInt f (pos to)) high to wh wt c)),
+    )
+  where
+    whole-le : (x y : Float) (m n : ℕ) → Whole x m → Whole y n → m ≤ n → Le x y
+    whole-le x y m n v w h =
+        rw (v .1, w .1, v .2, w .2) (omega (arith, mul-le-mul-right (den x * den y) h))
