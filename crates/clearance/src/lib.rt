@@ -2,10 +2,11 @@
 use rules::Answer;
 use rules::Edge;
 ghost use mathlib.Core.Path.{_≡_};
-ghost use Rattle.rules.specs.Outputs.{surveyRefusal, enquiry};
+ghost use Rattle.rules.specs.Outputs.{surveyRefusal, surveyOf, enquiry, asked, answered, StaysOn};
 ghost use Rattle.rules.specs.Closing.{ClosedIn};
 ghost use Rattle.drawing.specs.Draws.{lent, Draws};
-ghost use Rattle.clearance.specs.Reply.{replyOf, edgeReply};
+ghost use Rattle.clearance.specs.Reply.{replyOf, told};
+ghost use Rattle.rules.specs.declared.Answer.the-variants.{Found};
 ghost use Rattle.clearance.specs.Counts.{drawnOf};
 
 // The answer of an enquiry as plain numbers: the number returned, whether the edge is crossing, the point's number and its place.
@@ -28,7 +29,7 @@ pub struct Counts {
 }
 
 fn edge_reply(e: Edge) -> Reply
-    ensures { λ r. ⌜ r ≡ edgeReply e ⌝ }
+    ensures { λ r. ⌜ r ≡ replyOf (answered (Found e)) ⌝ }
 {
     match e {
         Edge::Even => Reply {
@@ -51,7 +52,7 @@ fn edge_reply(e: Edge) -> Reply
 }
 
 fn reply_of(a: Answer) -> Reply
-    ensures { λ r. ⌜ r ≡ replyOf a ⌝ }
+    ensures { λ r. ⌜ r ≡ replyOf (answered a) ⌝ }
 {
     match a {
         Answer::Refused(n) => Reply {
@@ -86,7 +87,10 @@ pub extern "C" fn clearance_enquire(
     z: u32,
     length: u32,
 ) -> Reply
-    ensures { λ r. ⌜ r ≡ replyOf (enquiry (now (cells .entry)) (now (corners .entry)) clearance axis (record { x = x; y = y; z = z }) length) ⌝ }
+    ensures exact { λ r. ⌜ r ≡ replyOf (enquiry (now (cells .entry)) (now (corners .entry)) clearance axis (record { x = x; y = y; z = z }) length) ⌝ }
+    ensures tells { λ r. ⌜ told r ≡ enquiry (now (cells .entry)) (now (corners .entry)) clearance axis (record { x = x; y = y; z = z }) length ⌝ }
+    ensures on_edge { λ r. ⌜ StaysOn (surveyOf (now (cells .entry)) (now (corners .entry)) clearance) (asked axis (record { x = x; y = y; z = z }) length)
+        (told r) ⌝ }
 {
     reply_of(edges::enquire(cells, corners, clearance, axis, x, y, z, length))
 }

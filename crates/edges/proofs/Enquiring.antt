@@ -10,13 +10,10 @@ use lib.Ieee.{Float}
 use borrow.Author.Tests.{eq-eqb, ne-eqb, lt-ltb, le-ltb}
 use Rattle.base.specs.Lists.{any, first, count}
 use Rattle.base.specs.Grid.{Place, Axis, along, axisOf}
-use Rattle.base.proofs.Tests.{→true, true→, either, false→}
+use Rattle.base.proofs.Tests.{→true, true→, either, false→, eq→eqb, not-both}
 use Rattle.rules.specs.Survey.{cellsOf, cornersOf, wetAt, entries, Survey}
 use Rattle.rules.specs.Edges.{isEdge, odd, numberOf, carrier, Spot, spotOn}
-use Rattle.rules.specs.Outputs.{firstOf, checks, accepted, surveyOf, entriesRight, levelOf, enquiry}
-use Rattle.rules.specs.declared.Edge.the-variants.{Even, Crossing}
-use Rattle.rules.specs.declared.Answer.{Answer}
-use Rattle.rules.specs.declared.Answer.the-variants.{Refused, Found}
+use Rattle.rules.specs.Outputs.{firstOf, checks, accepted, surveyOf, entriesRight, levelOf, Enquired, refused, even, crossing, enquiry}
 use Rattle.records.specs.Keys.{keyOf}
 use Rattle.cells.specs.Laid.{tooDeep}
 use Rattle.octree.specs.Lawful.{Lawful}
@@ -51,38 +48,31 @@ module _ (tc tk : List ℕ) (clearance : Float) (a : Axis) (p : Place) (l : ℕ)
   abbrev s : Survey
   s = surveyOf tc tk clearance
 
-  abbrev here : Answer
-  here =
-      Found (cond (odd (wetAt (cornersOf tk) clearance) a p l)
-      (Crossing (numberOf s (carrier s a p l)) (spotOn (cornersOf tk) clearance (carrier s a p l) .x) (spotOn (cornersOf tk) clearance (carrier s a p l) .y)
-      (spotOn (cornersOf tk) clearance (carrier s a p l) .z)) Even)
+  abbrev oddAnswer : Enquired
+  oddAnswer = crossing (numberOf s (carrier s a p l)) (spotOn (cornersOf tk) clearance (carrier s a p l))
 
-  answer-is : edgeAnswer tc tk clearance a p l ≡ cond (isEdge (cellsOf tc) a p l) here (Refused 11)
+  abbrev here : Enquired
+  here = cond (odd (wetAt (cornersOf tk) clearance) a p l) oddAnswer even
+
+  answer-is : edgeAnswer tc tk clearance a p l ≡ cond (isEdge (cellsOf tc) a p l) here (refused 11)
   unfolding edgeAnswer
   answer-is = refl
 
-  pub answer-none : isEdge (cellsOf tc) a p l ≡ false → Refused 11 ≡ edgeAnswer tc tk clearance a p l
-  answer-none h = sym (answer-is ∙ ap (λ b. cond b here (Refused 11)) h)
+  pub answer-none : isEdge (cellsOf tc) a p l ≡ false → refused 11 ≡ edgeAnswer tc tk clearance a p l
+  answer-none h = sym (answer-is ∙ ap (λ b. cond b here (refused 11)) h)
 
   module _ (t : T (isEdge (cellsOf tc) a p l)) where
     found-here : here ≡ edgeAnswer tc tk clearance a p l
-    found-here = sym (answer-is ∙ ap (λ b. cond b here (Refused 11)) (true→ (isEdge (cellsOf tc) a p l) t))
+    found-here = sym (answer-is ∙ ap (λ b. cond b here (refused 11)) (true→ (isEdge (cellsOf tc) a p l) t))
 
-    pub answer-even : odd (wetAt (cornersOf tk) clearance) a p l ≡ false → Found Even ≡ edgeAnswer tc tk clearance a p l
-    answer-even h =
-        ap (λ b. Found (cond b
-        (Crossing (numberOf s (carrier s a p l)) (spotOn (cornersOf tk) clearance (carrier s a p l) .x) (spotOn (cornersOf tk) clearance (carrier s a p l) .y)
-        (spotOn (cornersOf tk) clearance (carrier s a p l) .z)) Even)) (sym h) ∙ found-here
+    pub answer-even : odd (wetAt (cornersOf tk) clearance) a p l ≡ false → even ≡ edgeAnswer tc tk clearance a p l
+    answer-even h = ap (λ b. cond b oddAnswer even) (sym h) ∙ found-here
 
     pub answer-crossing : odd (wetAt (cornersOf tk) clearance) a p l ≡ true → (n : ℕ) → n ≡ numberOf (surveyOf tc tk clearance)
         (carrier (surveyOf tc tk clearance) a p l) →
         (q : Spot) → q ≡ spotOn (cornersOf tk) clearance (carrier (surveyOf tc tk clearance) a p l) →
-        Found (Crossing n (q .x) (q .y) (q .z)) ≡ edgeAnswer tc tk clearance a p l
-    answer-crossing h n e q f =
-        (λ i. Found (Crossing (e i) (f i .x) (f i .y) (f i .z))) ∙
-        ap (λ b. Found (cond b
-        (Crossing (numberOf s (carrier s a p l)) (spotOn (cornersOf tk) clearance (carrier s a p l) .x) (spotOn (cornersOf tk) clearance (carrier s a p l) .y)
-        (spotOn (cornersOf tk) clearance (carrier s a p l) .z)) Even)) (sym h) ∙ found-here
+        crossing n q ≡ edgeAnswer tc tk clearance a p l
+    answer-crossing h n e q f = (λ i. crossing (e i) (f i)) ∙ ap (λ b. cond b oddAnswer even) (sym h) ∙ found-here
 
 -- ---- an accepted survey
 
@@ -110,10 +100,10 @@ module _ (tc tk : List ℕ) (clearance : Float) (ok : accepted tc tk clearance �
 -- ---- the order of the refusals
 
 module _ (tc tk : List ℕ) (clearance : Float) (axis : ℕ) (p : Place) (size : ℕ) where
-  abbrev last : Bool
+  abbrev pub last : Bool
   last = not (ltb axis 3 && isEdge (cellsOf tc) (axisOf axis) p (levelOf size))
 
-  abbrev found : Answer
+  abbrev found : Enquired
   found = here tc tk clearance (axisOf axis) p (levelOf size)
 
   numbers-good : T (numbered (checks tc tk clearance))
@@ -124,18 +114,31 @@ module _ (tc tk : List ℕ) (clearance : Float) (axis : ℕ) (p : Place) (size :
       (firstOf (checks tc tk clearance))
   number-of = first-append (checks tc tk clearance) ((11, last) ∷ []) numbers-good
 
-  enquiry-is : enquiry tc tk clearance axis p size ≡
-      cond (eqb (firstOf (checks tc tk clearance ++ (11, last) ∷ [])) 0) found (Refused (firstOf (checks tc tk clearance ++ (11, last) ∷ [])))
+  pub enquiry-is : enquiry tc tk clearance axis p size ≡
+      cond (eqb (firstOf (checks tc tk clearance ++ (11, last) ∷ [])) 0) found (refused (firstOf (checks tc tk clearance ++ (11, last) ∷ [])))
   unfolding enquiry
   enquiry-is = refl
 
-  pub enquiry-refused : (n : ℕ) → n ≡ firstOf (checks tc tk clearance) → (n ≡ 0 → ⊥) → Refused n ≡ enquiry tc tk clearance axis p size
+  -- nothing refuses: the survey is accepted and some cell has the edge
+  pub enquiry-passed : firstOf (checks tc tk clearance ++ (11, last) ∷ []) ≡ 0 →
+      T (accepted tc tk clearance) × T (isEdge (cellsOf tc) (axisOf axis) p (levelOf size))
+  unfolding accepted
+  enquiry-passed h = go (eqb (firstOf (checks tc tk clearance)) 0) (ltb axis 3) (isEdge (cellsOf tc) (axisOf axis) p (levelOf size)) refl (sym number-of ∙ h)
+    where
+      go : (u v w : Bool) → eqb (firstOf (checks tc tk clearance)) 0 ≡ u → cond u (cond (not (v && w)) 11 0) (firstOf (checks tc tk clearance)) ≡ 0 →
+          T (eqb (firstOf (checks tc tk clearance)) 0) × T w
+      go true true true e z = (→true e, tt)
+      go true true false e z = absurd (omega arith)
+      go true false w e z = absurd (omega arith)
+      go false v w e z = absurd (not-both (eq→eqb (firstOf (checks tc tk clearance)) 0 z) e)
+
+  pub enquiry-refused : (n : ℕ) → n ≡ firstOf (checks tc tk clearance) → (n ≡ 0 → ⊥) → refused n ≡ enquiry tc tk clearance axis p size
   enquiry-refused n e h =
       let z : eqb (firstOf (checks tc tk clearance)) 0 ≡ false = ne-eqb (firstOf (checks tc tk clearance)) 0 (λ q. h (e ∙ q)) in
       let m : firstOf (checks tc tk clearance ++ (11, last) ∷ []) ≡ firstOf (checks tc tk clearance) =
       number-of ∙ ap (λ b. cond b (cond last 11 0) (firstOf (checks tc tk clearance))) z in
-      ap (λ k. Refused k) (e ∙ sym m) ∙
-      sym (enquiry-is ∙ ap (λ b. cond b found (Refused (firstOf (checks tc tk clearance ++ (11, last) ∷ [])))) (ap (λ k. eqb k 0) m ∙ z))
+      ap (λ k. refused k) (e ∙ sym m) ∙
+      sym (enquiry-is ∙ ap (λ b. cond b found (refused (firstOf (checks tc tk clearance ++ (11, last) ∷ [])))) (ap (λ k. eqb k 0) m ∙ z))
 
   module _ (n : ℕ) (e : n ≡ firstOf (checks tc tk clearance)) (h : n ≡ 0) where
     pub is-accepted : accepted tc tk clearance ≡ true
@@ -146,26 +149,26 @@ module _ (tc tk : List ℕ) (clearance : Float) (axis : ℕ) (p : Place) (size :
     number-last =
         number-of ∙ ap (λ b. cond b (cond last 11 0) (firstOf (checks tc tk clearance))) (eq-eqb (firstOf (checks tc tk clearance)) 0 (sym e ∙ h))
 
-    last-is : enquiry tc tk clearance axis p size ≡ cond (eqb (cond last 11 0) 0) found (Refused (cond last 11 0))
-    last-is = enquiry-is ∙ ap (λ k. cond (eqb k 0) found (Refused k)) number-last
+    last-is : enquiry tc tk clearance axis p size ≡ cond (eqb (cond last 11 0) 0) found (refused (cond last 11 0))
+    last-is = enquiry-is ∙ ap (λ k. cond (eqb k 0) found (refused k)) number-last
 
-    refused : last ≡ true → Refused 11 ≡ enquiry tc tk clearance axis p size
-    refused g = sym (last-is ∙ ap (λ b. cond (eqb (cond b 11 0) 0) found (Refused (cond b 11 0))) g)
+    last-refused : last ≡ true → refused 11 ≡ enquiry tc tk clearance axis p size
+    last-refused g = sym (last-is ∙ ap (λ b. cond (eqb (cond b 11 0) 0) found (refused (cond b 11 0))) g)
 
     -- an axis above 2
-    pub axis-refused : 3 ≤ axis → Refused 11 ≡ enquiry tc tk clearance axis p size
-    axis-refused g = refused (ap (λ b. not (b && isEdge (cellsOf tc) (axisOf axis) p (levelOf size))) (le-ltb axis 3 g))
+    pub axis-refused : 3 ≤ axis → refused 11 ≡ enquiry tc tk clearance axis p size
+    axis-refused g = last-refused (ap (λ b. not (b && isEdge (cellsOf tc) (axisOf axis) p (levelOf size))) (le-ltb axis 3 g))
 
     -- no cell has the edge
-    pub edge-refused : axis < 3 → isEdge (cellsOf tc) (axisOf axis) p (levelOf size) ≡ false → Refused 11 ≡ enquiry tc tk clearance axis p size
-    edge-refused g f = refused (λ i. not (lt-ltb axis 3 g i && f i))
+    pub edge-refused : axis < 3 → isEdge (cellsOf tc) (axisOf axis) p (levelOf size) ≡ false → refused 11 ≡ enquiry tc tk clearance axis p size
+    edge-refused g f = last-refused (λ i. not (lt-ltb axis 3 g i && f i))
 
     pub enquiry-answer : axis < 3 → edgeAnswer tc tk clearance (axisOf axis) p (levelOf size) ≡ enquiry tc tk clearance axis p size
     enquiry-answer g =
         answer-is tc tk clearance (axisOf axis) p (levelOf size) ∙ go (isEdge (cellsOf tc) (axisOf axis) p (levelOf size)) ∙
         sym (last-is ∙ ap (λ b. cond (eqb (cond (not (b && isEdge (cellsOf tc) (axisOf axis) p (levelOf size))) 11 0) 0) found
-        (Refused (cond (not (b && isEdge (cellsOf tc) (axisOf axis) p (levelOf size))) 11 0))) (lt-ltb axis 3 g))
+        (refused (cond (not (b && isEdge (cellsOf tc) (axisOf axis) p (levelOf size))) 11 0))) (lt-ltb axis 3 g))
       where
-        go : (b : Bool) → cond b found (Refused 11) ≡ cond (eqb (cond (not b) 11 0) 0) found (Refused (cond (not b) 11 0))
+        go : (b : Bool) → cond b found (refused 11) ≡ cond (eqb (cond (not b) 11 0) 0) found (refused (cond (not b) 11 0))
         go true = refl
         go false = refl

@@ -14,3 +14,4 @@ pub mod Twins
 pub mod TwinSlots
 pub mod Places
 pub mod Enquiring
+pub mod Staying

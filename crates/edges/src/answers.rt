@@ -3,7 +3,7 @@ ghost use mathlib.Core.Path.{_≡_};
 ghost use mathlib.Core.Bool.{true};
 ghost use Prim.Native.Nat.{_+_, _*_, _/_, _<_};
 ghost use Rattle.base.specs.Grid.{axisOf};
-ghost use Rattle.rules.specs.Outputs.{accepted};
+ghost use Rattle.rules.specs.Outputs.{accepted, answered};
 ghost use Rattle.octants.specs.Octants.{Octants};
 ghost use Rattle.edges.specs.Tables.{CellLevels, Lowest, Highest, Far, Wets};
 ghost use Rattle.edges.specs.Enquiry.{edgeAnswer};
@@ -32,7 +32,7 @@ pub fn edge_answer(
     requires { ⌜ Highest (now cells) (now corners) (now highest) ⌝ }
     requires { ⌜ Far (now cells) (now corners) (now far) ⌝ }
     requires { ⌜ axis < 3 ⌝ }
-    ensures { λ r. ⌜ r ≡ edgeAnswer (now (cells .entry)) (now (corners .entry)) clearance (axisOf axis) (record { x = x; y = y; z = z }) level ⌝ }
+    ensures { λ r. ⌜ answered r ≡ edgeAnswer (now (cells .entry)) (now (corners .entry)) clearance (axisOf axis) (record { x = x; y = y; z = z }) level ⌝ }
 {
     let key = (x as u64) + 65536 * (y as u64) + 4294967296 * (z as u64);
     let k = crate::edge_record(cells, corners, clearance, lowest, highest, axis, key, level);
@@ -66,7 +66,7 @@ pub fn enquire_accepted(
     requires { ⌜ CellLevels (now cells) (now levels) ⌝ }
     requires { ⌜ Octants (now cells) (now corners) (now octants) ⌝ }
     requires { ⌜ axis < 3 ⌝ }
-    ensures { λ r. ⌜ r ≡ edgeAnswer (now (cells .entry)) (now (corners .entry)) clearance (axisOf axis) (record { x = x; y = y; z = z }) level ⌝ }
+    ensures { λ r. ⌜ answered r ≡ edgeAnswer (now (cells .entry)) (now (corners .entry)) clearance (axisOf axis) (record { x = x; y = y; z = z }) level ⌝ }
 {
     let mut lowest = [11u8; 14616];
     let mut highest = [0u8; 14616];

@@ -17,7 +17,7 @@ ghost use Rattle.edges.specs.Tables.{edgesOf, placeAt, crossedSlot, slot
 ghost use Rattle.edges.specs.Tables.{Highest, Far, Wets, Numbers, Slots, Twins, OddEdge, Sought};
 ghost use Rattle.octants.specs.Octants.{Octants};
 ghost use Rattle.edges.specs.Numbering.{Numbered};
-ghost use Rattle.rules.specs.Outputs.{enquiry};
+ghost use Rattle.rules.specs.Outputs.{enquiry, asked, answered, StaysOn};
 use places::Point;
 use rules::Answer;
 
@@ -370,7 +370,9 @@ pub fn enquire(
     z: u32,
     size: u32,
 ) -> Answer
-    ensures { λ r. ⌜ r ≡ enquiry (now (cells .entry)) (now (corners .entry)) clearance axis (record { x = x; y = y; z = z }) size ⌝ }
+    ensures exact { λ r. ⌜ answered r ≡ enquiry (now (cells .entry)) (now (corners .entry)) clearance axis (record { x = x; y = y; z = z }) size ⌝ }
+    ensures on_edge { λ r. ⌜ StaysOn (surveyOf (now (cells .entry)) (now (corners .entry)) clearance) (asked axis (record { x = x; y = y; z = z }) size)
+        (answered r) ⌝ }
 {
     let mut keys = [0u64; 2049];
     let mut levels = [0u8; 2049];

@@ -4,19 +4,15 @@ use Prim.Native.Nat.{ℕ, zero, suc, _+_, _*_, _/_, _%_}
 use mathlib.Core.Path.{_≡_, refl, ap₂}
 use mathlib.Core.Bool.{Bool, true, false, _&&_, cond}
 use mathlib.Core.List.{List, [], _∷_, _++_, map}
-use mathlib.Core.Option.{Option, none, some}
 use lib.Dec.{eqb, eqb→eq, T}
 use lib.ListN.{replicate}
 use lib.Ieee.{Float, binary32, ofBits, toBits}
 use Rattle.base.specs.Lists.{any, all, keep, collect}
 use Rattle.base.specs.Grid.{Place, origin, X, axes, same}
 use Rattle.rules.specs.Survey.{cellsOf}
-use Rattle.rules.specs.Edges.{onSide, Spot}
+use Rattle.rules.specs.Edges.{onSide}
 use Rattle.rules.specs.Steps.{steps, saddleCut}
-use Rattle.rules.specs.Outputs.{surveyRefusal, Drawing, draw, enquiry, returned, crossing, coordinates}
-use Rattle.rules.specs.declared.Edge.{Edge}
-use Rattle.rules.specs.declared.Answer.{Answer}
-use Rattle.rules.specs.declared.Answer.the-variants.{Refused, Found}
+use Rattle.rules.specs.Outputs.{surveyRefusal, Drawing, draw, Enquired, refused, even, crossing, enquiry, coordinates}
 
 -- ---- tables
 
@@ -134,15 +130,11 @@ unfolding toBits
 drawingNumbers d = d .result .number ∷ d .result .points ∷ d .result .triangles ∷ map bits (d .points) ++ d .triangles
 
 -- an enquiry's answer: the number returned, and for a crossing the point's number and the bits of its place
-abbrev pub crossingNumbers : Option (ℕ × Spot) → List ℕ
+abbrev pub answerNumbers : Enquired → List ℕ
 unfolding toBits
-crossingNumbers none = []
-crossingNumbers (some c) = c .0 ∷ map bits (coordinates (c .1))
-
-abbrev pub answerNumbers : Answer → List ℕ
-unfolding toBits
-answerNumbers (Refused n) = returned (Refused n) ∷ []
-answerNumbers (Found e) = returned (Found e) ∷ crossingNumbers (crossing e)
+answerNumbers (refused n) = n ∷ []
+answerNumbers even = 0 ∷ []
+answerNumbers (crossing n place) = 0 ∷ n ∷ map bits (coordinates place)
 
 unfoldable pub outcome : Call → Float → List ℕ → List ℕ → List ℕ
 unfolding surveyRefusal draw enquiry ofBits toBits saddleCut

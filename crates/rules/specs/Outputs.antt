@@ -2,7 +2,6 @@
 use Prim.Native.Nat.{ℕ, zero, suc, _+_, _*_, _%_, _^_}
 use mathlib.Core.Bool.{Bool, true, false, not, _&&_, _||_, cond}
 use mathlib.Core.List.{List, [], _∷_, _++_, map}
-use mathlib.Core.Option.{Option, none, some}
 use lib.Dec.{eqb, ltb}
 use lib.ListN.{length, drop}
 use lib.IntN.{pos}
@@ -10,10 +9,9 @@ use lib.Ieee.{Float, fin, le}
 use Rattle.base.specs.Lists.{any, all, first, collect, count}
 use Rattle.base.specs.Grid.{Place, axisOf, same}
 use Rattle.rules.specs.Survey.{Cell, entries, cellsOf, cellCorners, cornersOf, placeOf, wetAt, Survey}
-use Rattle.rules.specs.Edges.{CellEdge, isEdge, odd, pointEdges, numberOf, carrier, Spot, spotOn}
+use Rattle.rules.specs.Edges.{CellEdge, edge, isEdge, odd, pointEdges, numberOf, carrier, Spot, spotOn, OnEdge}
 use Rattle.rules.specs.Steps.{saddleCut, Triangle, allTriangles}
 use Rattle.rules.specs.declared.Corner.{Corner}
-use Rattle.rules.specs.declared.Edge.{Edge}
 use Rattle.rules.specs.declared.Edge.the-variants.{Even, Crossing}
 use Rattle.rules.specs.declared.Answer.{Answer}
 use Rattle.rules.specs.declared.Answer.the-variants.{Refused, Found}
@@ -141,8 +139,18 @@ draw tc tk clearance ps ts =
 abbrev pub levelOf : ℕ → ℕ
 levelOf length = first (λ l. eqb (2 ^ l) length) 11 (count 0 11)
 
--- the edge enquiry, by axis, lower end and length
-unfoldable pub enquiry : List ℕ → List ℕ → Float → ℕ → Place → ℕ → Answer
+-- the edge asked about, by axis, lower end and length
+abbrev pub asked : ℕ → Place → ℕ → CellEdge
+asked axis p length = edge (axisOf axis) p (levelOf length)
+
+-- what the enquiry answers: a refusal, which is its number alone; even; or crossing, with the point's number and its place
+pub data Enquired : Type 0 where
+  refused : ℕ → Enquired
+  even : Enquired
+  crossing : ℕ → Spot → Enquired
+
+-- the edge enquiry
+unfoldable pub enquiry : List ℕ → List ℕ → Float → ℕ → Place → ℕ → Enquired
 unfolding checks surveyOf cellsOf cornersOf wetAt isEdge odd carrier numberOf spotOn
 enquiry tc tk clearance axis p length =
     let s = surveyOf tc tk clearance in
@@ -151,15 +159,22 @@ enquiry tc tk clearance axis p length =
     let number = firstOf (checks tc tk clearance ++ (11, not (ltb axis 3 && isEdge (s .cells) a p l)) ∷ []) in
     let e = carrier s a p l in
     let place = spotOn (cornersOf tk) clearance e in
-    let answer = cond (odd (s .isWet) a p l) (Crossing (numberOf s e) (place .x) (place .y) (place .z)) Even in
-    cond (eqb number 0) (Found answer) (Refused number)
+    let answer = cond (odd (s .isWet) a p l) (crossing (numberOf s e) place) even in
+    cond (eqb number 0) answer (refused number)
 
--- Document 01's words for each case of the enums. The number returned: a refusal's, or 0.
-abbrev pub returned : Answer → ℕ
-returned (Refused n) = n
-returned (Found e) = 0
+-- document 01's number and values for each case of the enums
+abbrev pub answered : Answer → Enquired
+answered (Refused n) = refused n
+answered (Found Even) = even
+answered (Found (Crossing n a b c)) = crossing n (record { x = a; y = b; z = c })
 
--- the point's number and place; none if even
-abbrev pub crossing : Edge → Option (ℕ × Spot)
-crossing Even = none
-crossing (Crossing n a b c) = some (n, record { x = a; y = b; z = c })
+-- the place of a crossing lies on an edge; a refusal and an even edge have no place
+abbrev pub PlacedOn : CellEdge → Enquired → Type 0
+PlacedOn e (refused n) = Unit {0}
+PlacedOn e even = Unit {0}
+PlacedOn e (crossing n place) = OnEdge e place
+
+-- "It never leaves the edge": the place of an answer lies on the edge asked about, and on the undivided edge that carries the point.
+pub record StaysOn (s : Survey) (e : CellEdge) (answer : Enquired) : Type 0 where
+  pub on-asked : PlacedOn e answer
+  pub on-carrier : PlacedOn (carrier s (e .axis) (e .low) (e .level)) answer

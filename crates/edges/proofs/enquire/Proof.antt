@@ -1,5 +1,7 @@
--- `edges::enquire` meets its contract: the refusals in their order; no edge starts outside the box; then the answer from the tables.
+-- `edges::enquire` meets its contract: the refusals in their order; no edge starts outside the box; then the answer from the tables. And the answer's
+-- place stays on the edge, as the rules' does.
 use Rattle.edges.proofs.Enquiring.{far-off, enquiry-refused, is-accepted, axis-refused, edge-refused, enquiry-answer}
+use Rattle.edges.proofs.Staying.{both}
 use Rattle.edges.proofs.Surveyed.{cells-few}
 use Rattle.edges.proofs.Readings.{no-refusal}
 use Rattle.edges.specs.Enquiry.{edgeAnswer}
@@ -36,7 +38,7 @@ returns c =
     let n = s .args .axis in
     let p : Place = record { x = s .args .x; y = s .args .y; z = s .args .z } in
     let e = r .refusal .ensures .0 in
-    enquiry-refused tc tk x n p (s .args .size) (r .refusal .result) e (c .if1 .taken)
+    both tc tk x n p (s .args .size) _ (enquiry-refused tc tk x n p (s .args .size) (r .refusal .result) e (c .if1 .taken))
 
 returns-2 : tie.Need-returns-2
 returns-2 c =
@@ -48,7 +50,7 @@ returns-2 c =
     let n = s .args .axis in
     let p : Place = record { x = s .args .x; y = s .args .y; z = s .args .z } in
     let e = r .refusal .ensures .0 in
-    axis-refused tc tk x n p (s .args .size) (r .refusal .result) e (c .before .if1 .left) (omega arith)
+    both tc tk x n p (s .args .size) _ (axis-refused tc tk x n p (s .args .size) (r .refusal .result) e (c .before .if1 .left) (omega arith))
 
 returns-3 : tie.Need-returns-3
 returns-3 c =
@@ -61,8 +63,9 @@ returns-3 c =
     let p : Place = record { x = s .args .x; y = s .args .y; z = s .args .z } in
     let e = r .refusal .ensures .0 in
     let z = c .before .before .if1 .left in
-    edge-refused tc tk x n p (s .args .size) (r .refusal .result) e z (omega arith)
-    (far-off tc tk x (is-accepted tc tk x n p (s .args .size) (r .refusal .result) e z) (axisOf n) X p (levelOf (s .args .size)) (c .if3 .taken))
+    both tc tk x n p (s .args .size) _
+    (edge-refused tc tk x n p (s .args .size) (r .refusal .result) e z (omega arith)
+    (far-off tc tk x (is-accepted tc tk x n p (s .args .size) (r .refusal .result) e z) (axisOf n) X p (levelOf (s .args .size)) (c .if3 .taken)))
 
 returns-4 : tie.Need-returns-4
 returns-4 c =
@@ -75,8 +78,9 @@ returns-4 c =
     let p : Place = record { x = s .args .x; y = s .args .y; z = s .args .z } in
     let e = r .refusal .ensures .0 in
     let z = c .before .before .before .if1 .left in
-    edge-refused tc tk x n p (s .args .size) (r .refusal .result) e z (omega arith)
-    (far-off tc tk x (is-accepted tc tk x n p (s .args .size) (r .refusal .result) e z) (axisOf n) Y p (levelOf (s .args .size)) (c .if4 .taken))
+    both tc tk x n p (s .args .size) _
+    (edge-refused tc tk x n p (s .args .size) (r .refusal .result) e z (omega arith)
+    (far-off tc tk x (is-accepted tc tk x n p (s .args .size) (r .refusal .result) e z) (axisOf n) Y p (levelOf (s .args .size)) (c .if4 .taken)))
 
 returns-5 : tie.Need-returns-5
 returns-5 c =
@@ -89,8 +93,9 @@ returns-5 c =
     let p : Place = record { x = s .args .x; y = s .args .y; z = s .args .z } in
     let e = r .refusal .ensures .0 in
     let z = c .before .before .before .before .if1 .left in
-    edge-refused tc tk x n p (s .args .size) (r .refusal .result) e z (omega arith)
-    (far-off tc tk x (is-accepted tc tk x n p (s .args .size) (r .refusal .result) e z) (axisOf n) Z p (levelOf (s .args .size)) (c .if5 .taken))
+    both tc tk x n p (s .args .size) _
+    (edge-refused tc tk x n p (s .args .size) (r .refusal .result) e z (omega arith)
+    (far-off tc tk x (is-accepted tc tk x n p (s .args .size) (r .refusal .result) e z) (axisOf n) Z p (levelOf (s .args .size)) (c .if5 .taken)))
 
 slice-aggregate-enquire-accepted : tie.Need-slice-aggregate-enquire-accepted
 slice-aggregate-enquire-accepted c = search needs
@@ -141,8 +146,10 @@ returns-6 c =
     let n = s .args .axis in
     let p : Place = record { x = s .args .x; y = s .args .y; z = s .args .z } in
     let e = r .refusal .ensures .0 in
-    c .enquire-accepted .ensures ∙ ap (edgeAnswer tc tk x (axisOf n) p) (c .before .level-of .ensures)
-    ∙ enquiry-answer tc tk x n p (s .args .size) (r .refusal .result) e (c .before .before .before .before .before .before .before .before .if1 .left) (omega arith)
+    let z = c .before .before .before .before .before .before .before .before .if1 .left in
+    both tc tk x n p (s .args .size) _
+    (c .enquire-accepted .ensures ∙ ap (edgeAnswer tc tk x (axisOf n) p) (c .before .level-of .ensures)
+    ∙ enquiry-answer tc tk x n p (s .args .size) (r .refusal .result) e z (omega arith))
 
 pub enquire-spec : {M : Type 1} → statement M
 enquire-spec =
