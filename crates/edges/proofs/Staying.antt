@@ -12,7 +12,7 @@ use Rattle.base.proofs.Tests.{→true, true→}
 use Rattle.rules.specs.Survey.{cellsOf, cornersOf, wetAt, Survey}
 use Rattle.rules.specs.Edges.{CellEdge, edge, isEdge, odd, numberOf, carrier, spotOn, OnEdge}
 use Rattle.rules.specs.Outputs.{firstOf, checks, accepted, surveyOf, levelOf, asked, Enquired, refused, even, crossing, enquiry, StaysOn}
-use Rattle.octree.proofs.Lawful.{Lawful}
+use Rattle.octree.specs.Lawful.{Lawful}
 use Rattle.octree.proofs.Accepted.{lawful}
 use Rattle.octree.proofs.Aligned.{edge-in-box}
 use Rattle.octree.proofs.Halves.{carrier-crossed}
