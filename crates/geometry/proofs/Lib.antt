@@ -18,3 +18,6 @@ pub mod Laws
 pub mod Views
 pub mod Passed
 pub mod Theorem
+pub mod Nested
+pub mod Touching
+pub mod SmallFaces

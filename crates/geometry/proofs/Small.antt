@@ -53,7 +53,7 @@ module _ (cells : List Cell) (side : Side) (weight : Face → ℕ) (a : Axis) (s
   abbrev inSide : ℕ → Place → ℕ
   inSide k p = sum weight (smallFaces cells side p k)
 
-  small-total : (k n u v : ℕ) → inSide k (place a n u v) ≡ total across st k n u v
+  pub small-total : (k n u v : ℕ) → inSide k (place a n u v) ≡ total across st k n u v
   unfolding smallFaces total
   small-total zero n u v = omega (arith, face-is 0 n u v)
   small-total (suc k) n u v = go (small-total k n) (across (suc k) n u v) refl
@@ -87,7 +87,7 @@ module _ (cells : List Cell) (side : Side) (weight : Face → ℕ) (a : Axis) (s
       go ih false e =
           ap (sum weight) (small-whole cells side p k e) ∙ omega (arith, face-is (suc k) n u v, total-whole across st (suc k) n u v e)
 
-quarters-above : (a : Axis) (g : Place → ℕ) (k n u v : ℕ) →
+pub quarters-above : (a : Axis) (g : Place → ℕ) (k n u v : ℕ) →
     let p = place a n u v in
     g p + g (move (next a) (2 ^ k) p) + g (move (next (next a)) (2 ^ k) p) + g (move (next a) (2 ^ k) (move (next (next a)) (2 ^ k) p))
     ≡ four (λ u v. g (place a n u v)) (2 ^ k) u v
@@ -99,7 +99,7 @@ quarters-above a g k n u v =
       ap g (ap (move (next a) (2 ^ k)) (move-second a (2 ^ k) n u v) ∙ move-first a (2 ^ k) n u (v + 2 ^ k)),
     )
 
-quarters-below : (a : Axis) (g : Place → ℕ) (k n u v : ℕ) →
+pub quarters-below : (a : Axis) (g : Place → ℕ) (k n u v : ℕ) →
     let p = place a n u v in
     g p + g (move (next (next a)) (2 ^ k) p) + g (move (next a) (2 ^ k) p) + g (move (next (next a)) (2 ^ k) (move (next a) (2 ^ k) p))
     ≡ four (λ u v. g (place a n u v)) (2 ^ k) u v
