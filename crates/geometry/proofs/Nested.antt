@@ -14,7 +14,7 @@ use Rattle.base.proofs.Tests.{and→, →and, not-both, below, bit-true, bit-le
 use Rattle.base.proofs.Lists.{In, all→in}
 use Rattle.base.proofs.Places.{each-axis}
 use Rattle.base.proofs.Octants.{Holds}
-use Rattle.octree.proofs.Lawful.{isCell, isSplit, Octree}
+use Rattle.octree.specs.Lawful.{isCell, isSplit, Octree}
 use Rattle.octree.proofs.Cells.{→cell, split-cell}
 use Rattle.octree.proofs.Covers.{holds-self}
 use Rattle.octree.proofs.Aligned.{Multiple, upper-multiple, multiple-down, one-multiple, Aligned, one-cube, cell-aligned}

@@ -20,7 +20,7 @@ use Rattle.base.proofs.Tests.{and→, →and, →true, either, tests-equal, bit
 use Rattle.base.proofs.Lists.{In, any→in, in→any}
 use Rattle.base.proofs.Sums.{sum-zero, sum-same, sum-le, in-sum, times}
 use Rattle.base.proofs.Places.{every-axis, same→, along-put, put-put, put-along}
-use Rattle.octree.proofs.Lawful.{isAt, isCell, copies, Octree, Lawful}
+use Rattle.octree.specs.Lawful.{isAt, isCell, copies, Octree, Lawful}
 use Rattle.octree.proofs.Cells.{→at, →cell}
 use Rattle.octree.proofs.Accepted.{lawful}
 use Rattle.geometry.specs.SmallFaces.{sameFace, sideOf, opposite, isAcross, splitBeyond, meets, inside, touches, isSideInside, isSmallFace}

@@ -15,7 +15,7 @@ use Rattle.rules.specs.Steps.{Side, upperSide, lowerSide, sideLow, Face, face, 
 use Rattle.base.proofs.Tests.{and→, →and, true→, false→, either, not-both, eq→eqb, below, bit-true}
 use Rattle.base.proofs.Lists.{In}
 use Rattle.base.proofs.Sums.{sum-add, sum-times, sum-same, in-sum, times}
-use Rattle.octree.proofs.Lawful.{isAt, isCell, isSplit, copies, Octree}
+use Rattle.octree.specs.Lawful.{isAt, isCell, isSplit, copies, Octree}
 use Rattle.octree.proofs.Cells.{at→, →at, is-at, cell→, →cell, split-cell}
 use Rattle.octree.proofs.Aligned.{cell-aligned}
 use Rattle.octree.proofs.Inside.{split-of, no-cell-inside}
