@@ -12,12 +12,12 @@ use mathlib.Core.Bool.{Bool, true, false, not, _&&_, cond}
 use mathlib.Core.List.{List, [], _∷_, _++_}
 use lib.Dec.{T, eqb, eqb→eq, leb, leb→le, le→leb}
 use lib.Ieee.{Float}
+use lib.ListN.{replicate}
 use Rattle.base.specs.Lists.{any, keep, sum, bit}
-use Rattle.base.specs.Grid.{Place, Axis, X, Y, Z, next, along, put, move, back, same}
-use Rattle.rules.specs.Survey.{Cell, cell, size, cellsOf, Survey}
+use Rattle.base.specs.Grid.{Place, origin, Axis, X, Y, Z, next, along, put, move, back, same}
+use Rattle.rules.specs.Survey.{Cell, cell, size, cellsOf, Survey, cellsFrom}
 use Rattle.rules.specs.Steps.{Side, upperSide, lowerSide, sides, sideLow, Face, face, splitAcross, smallFaces}
 use Rattle.rules.specs.Outputs.{accepted, surveyOf}
-use Rattle.rules.proofs.Surveys.{cellTable, leaves}
 use Rattle.base.proofs.Tests.{and→, →and, →true, either, tests-equal, bit-true, bit-le}
 use Rattle.base.proofs.Lists.{In, any→in, in→any}
 use Rattle.base.proofs.Sums.{sum-zero, sum-same, sum-le, in-sum, times}
@@ -35,8 +35,8 @@ use Rattle.geometry.proofs.Touching.{sideBy, nearAt, own-low, near-low,
 -- Record 2 of the twin survey, in the upper half of x. Across its lower side on x is record 1, which is split into leaves; across its upper side on y
 -- is a leaf; its upper side on x lies on the box's outside.
 abbrev twinCells : List Cell
-unfolding cellsOf
-twinCells = cellsOf (cellTable (1 ∷ 9 ∷ leaves 15))
+unfolding cellsFrom
+twinCells = cellsFrom (1 ∷ 9 ∷ replicate 15 0) (cell origin 10 false ∷ [])
 
 abbrev twinLeaf : Cell
 twinLeaf = cell (place X 512 0 0) 9 false
@@ -50,15 +50,15 @@ abbrev candidates : List Face
 candidates = touching ++ (face (place X 256 0 0) 8 ∷ face (place X 512 0 0) 9 ∷ face (place X 512 512 0) 9 ∷ face (place X 1024 0 0) 9 ∷ [])
 
 split-across : keep (isSmallFace twinCells (lowerSide X) twinLeaf) candidates ≡ touching
-unfolding isSmallFace cellsOf
+unfolding isSmallFace cellsFrom
 split-across = refl
 
 leaf-across : keep (isSmallFace twinCells (upperSide Y) twinLeaf) candidates ≡ face (place X 512 512 0) 9 ∷ []
-unfolding isSmallFace cellsOf
+unfolding isSmallFace cellsFrom
 leaf-across = refl
 
 outside : keep (isSmallFace twinCells (upperSide X) twinLeaf) candidates ≡ face (place X 1024 0 0) 9 ∷ []
-unfolding isSmallFace cellsOf
+unfolding isSmallFace cellsFrom
 outside = refl
 
 -- ---- tests and counts
