@@ -9,7 +9,14 @@ ghost use Rattle.cells.specs.Laid.{octantKey, writtenAt};
 ghost use Rattle.octants.specs.Octants.{LookedUp};
 
 // Looks up the eight corners of cell `n`, by the key of its lowest corner and its level.
-fn fill_cell(corners: &[u8], n: usize, key: u64, level: u8, octants: &mut [u16])
+fn fill_cell(
+    corners: &[u8],
+    hints: &[u16; 16384],
+    n: usize,
+    key: u64,
+    level: u8,
+    octants: &mut [u16],
+)
     requires { ⌜ rising (placesOf (now corners)) ≡ true ⌝ }
     requires { ⌜ (length (now corners) ≤ 48720) × (length (now octants) ≡ 16392) ⌝ }
     requires { ⌜ (n < 2049) × (key ≤ 9223372036854775808) × (level ≤ 10) ⌝ }
@@ -19,13 +26,24 @@ fn fill_cell(corners: &[u8], n: usize, key: u64, level: u8, octants: &mut [u16])
     let size = cells::size_of(level);
     let mut i: usize = 0;
     while i < 8 {
-        octants[8 * n + i] = reader::find(corners, key + cells::octant_key(i, size)) as u16;
+        octants[8 * n + i] = reader::hints::find(
+            corners,
+            hints,
+            key + cells::octant_key(i, size),
+        ) as u16;
         i += 1;
     }
 }
 
-// The table of the corners of the first cells, filled by their keys and levels.
-pub fn fill(corners: &[u8], keys: &[u64], levels: &[u8], cells: usize, octants: &mut [u16])
+// The corners of the first cells, by their keys and levels.
+fn fill_cells(
+    corners: &[u8],
+    hints: &[u16; 16384],
+    keys: &[u64],
+    levels: &[u8],
+    cells: usize,
+    octants: &mut [u16],
+)
     requires { ⌜ rising (placesOf (now corners)) ≡ true ⌝ }
     requires { ⌜ (length (now corners) ≤ 48720) × (length (now octants) ≡ 16392) ⌝ }
     requires { ⌜ (cells ≤ 2049) × (cells ≤ length (now keys)) × (cells ≤ length (now levels)) ⌝ }
@@ -34,7 +52,20 @@ pub fn fill(corners: &[u8], keys: &[u64], levels: &[u8], cells: usize, octants: 
 {
     let mut n: usize = 0;
     while n < cells {
-        fill_cell(corners, n, keys[n], levels[n], octants);
+        fill_cell(corners, hints, n, keys[n], levels[n], octants);
         n += 1;
     }
+}
+
+// The table of the corners of the first cells, filled by their keys and levels. Hints spare nearly every search.
+pub fn fill(corners: &[u8], keys: &[u64], levels: &[u8], cells: usize, octants: &mut [u16])
+    requires { ⌜ rising (placesOf (now corners)) ≡ true ⌝ }
+    requires { ⌜ (length (now corners) ≤ 48720) × (length (now octants) ≡ 16392) ⌝ }
+    requires { ⌜ (cells ≤ 2049) × (cells ≤ length (now keys)) × (cells ≤ length (now levels)) ⌝ }
+    requires { ⌜ ((n : ℕ) → n < cells → (getD (now keys) n 0 ≤ 9223372036854775808) × (getD (now levels) n 0 ≤ 10)) ⌝ }
+    ensures { λ _. ⌜ LookedUp (now (corners .entry)) (now (keys .entry)) (now (levels .entry)) (now (octants .exit)) cells ⌝ }
+{
+    let mut hints = [65535u16; 16384];
+    reader::hints::fill(corners, &mut hints);
+    fill_cells(corners, &hints, keys, levels, cells, octants);
 }

@@ -1,18 +1,18 @@
--- `octants::fill` meets its contract: before each turn the table has the corners of the cells before cell n.
+-- `octants::fill_cells` meets its contract: before each turn the table has the corners of the cells before cell n.
 use Prim.Native.Nat.{_-_, _≤_}
 use mathlib.Core.Path.{_∙_, sym}
 use native.Mathlib.Omega.{arith}
 use Rattle.octants.specs.Octants.{LookedUp}
 use Rattle.octants.proofs.Laws.{cell-more, fewer}
 use borrow.Author.Needs.{needs}
-use Rattle.octants.proofs.fill.Statement.{statement}
-use Rattle.octants.proofs.fill.Tie as tie
+use Rattle.octants.proofs.fill_cells.Statement.{statement}
+use Rattle.octants.proofs.fill_cells.Tie as tie
 
 abbrev Inv-loop : tie.InvT-loop
-Inv-loop corners keys levels cells octants₀ n₀ octants n = (n ≤ cells) × LookedUp corners keys levels octants n
+Inv-loop corners hints keys levels cells octants₀ n₀ octants n = (n ≤ cells) × LookedUp corners keys levels octants n
 
 abbrev μ-loop : tie.MeasureT-loop
-μ-loop corners keys levels cells octants₀ n₀ octants n = cells - n
+μ-loop corners hints keys levels cells octants₀ n₀ octants n = cells - n
 
 loop-holds : tie.Need-loop-holds Inv-loop μ-loop
 loop-holds c = (omega arith, record { room = c .before .before .before .before .pre .1 .0 .1; number = λ n i h. absurd (omega arith) })
@@ -56,8 +56,8 @@ returns c =
     let s = c .before .before .before .before .before .before in
     fewer (s .args .corners .now) (s .args .keys .now) (s .args .levels .now) (c .before .loop .octants) (c .before .loop .n) _ (omega arith) (c .before .loop .inv .1)
 
-pub fill-spec : {M : Type 1} → statement M
-fill-spec =
+pub fill-cells-spec : {M : Type 1} → statement M
+fill-cells-spec =
     tie.close
     (tie.spec
     Inv-loop
