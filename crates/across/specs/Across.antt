@@ -21,7 +21,11 @@ splitBeyond cells side c =
     let n = position (splitAcross side (sideLow side c) (c .level)) 0 cells in
     cond (ltb n (length cells)) n 0
 
--- the table holds it for each side of each cell
-pub record Beyond (tc t : List ℕ) : Type 0 where
+-- the table holds it for each side of the cells of the records below m
+pub record BeyondTo (tc t : List ℕ) (m : ℕ) : Type 0 where
   pub room : 6 * (length tc / 4) ≤ length t
-  pub entry : (n i : ℕ) → n < length tc / 4 → i < 6 → getD t (6 * n + i) 0 ≡ splitBeyond (cellsOf tc) (sideNumber i) (cellAt tc n)
+  pub entry : (n i : ℕ) → n < m → i < 6 → getD t (6 * n + i) 0 ≡ splitBeyond (cellsOf tc) (sideNumber i) (cellAt tc n)
+
+-- the table holds it for each side of each cell
+abbrev pub Beyond : List ℕ → List ℕ → Type 0
+Beyond tc t = BeyondTo tc t (length tc / 4)
