@@ -1,15 +1,15 @@
 -- The scratch of one leaf, as one table: what it holds of a list of face steps. Element 0 is how many points the steps meet. Then, for each point v
--- below a limit, element 3 v + 1 is where a step leads from v, or 65,535 where none leaves it; element 3 v + 2 is 1 if a step meets v, else 0; and element
--- 3 i + 3 is the point that was met after i others.
+-- below a limit, element 3 v + 1 is where a step leads from v, or 65,535 where none leaves it; element 3 v + 2 is 1 if a step meets v, else 65,535; and
+-- element 3 i + 3 is the point that was met after i others. So a table of 65,535 throughout, with 0 in front, holds no step.
 -- Assumes nothing: these are definitions.
 use mathlib.Core.Path.{_≡_}
-use mathlib.Core.Bool.{Bool, true, _&&_, _||_, cond}
+use mathlib.Core.Bool.{Bool, true, false, _&&_, _||_, cond}
 use mathlib.Core.List.{List, [], _∷_}
 use Prim.Native.Nat.{ℕ, _+_, _*_, _≤_, _<_}
 use lib.Dec.{eqb, ltb}
 use lib.ListN.{length, getD, set}
-use Rattle.base.specs.Lists.{any, first, bit}
-use Rattle.rules.specs.Steps.{Step}
+use Rattle.base.specs.Lists.{any, first}
+use Rattle.rules.specs.Steps.{Step, met}
 
 abbrev pub nextAt : List ℕ → ℕ → ℕ
 nextAt t v = getD t (3 * v + 1) 0
@@ -31,6 +31,11 @@ meets ss v = any (λ t. eqb v (t .0) || eqb v (t .1)) ss
 abbrev pub endFrom : List Step → ℕ → ℕ
 endFrom ss v = (first (λ t. eqb v (t .0)) (v, 65535) ss) .1
 
+-- the mark of a point that is met, or not
+abbrev pub markOf : Bool → ℕ
+markOf true = 1
+markOf false = 65535
+
 -- the table, for points below a limit, holds the steps ss
 pub record Traced (limit : ℕ) (ss : List Step) (t : List ℕ) : Type 0 where
   pub room : length t ≡ 3 * limit + 1
@@ -38,9 +43,9 @@ pub record Traced (limit : ℕ) (ss : List Step) (t : List ℕ) : Type 0 where
   -- the steps join points below the limit
   pub within : (v : ℕ) → meets ss v ≡ true → v < limit
   pub next : (v : ℕ) → v < limit → nextAt t v ≡ endFrom ss v
-  pub mark : (v : ℕ) → v < limit → markAt t v ≡ bit (meets ss v)
-  -- the points met are listed
-  pub few : metCount t ≤ limit
+  pub mark : (v : ℕ) → v < limit → markAt t v ≡ markOf (meets ss v)
+  -- the points met are listed, each once
+  pub counted : metCount t ≡ length (met ss limit)
   pub listed : (v : ℕ) → meets ss v ≡ true → (i : ℕ) × (i < metCount t) × (metAt t i ≡ v)
   pub lists : (i : ℕ) → i < metCount t → metAt t i < limit
 
@@ -54,7 +59,7 @@ leaveAt t a b = cond (eqb (nextAt t a) 65535) (set t (3 * a + 1) b) t
 abbrev pub meetAt : List ℕ → ℕ → List ℕ
 meetAt t v =
     let new = set (set (set t (3 * v + 2) 1) (3 * metCount t + 3) v) 0 (metCount t + 1) in
-    cond (eqb (markAt t v) 0 && ltb (3 * metCount t + 3) (length t)) new t
+    cond (eqb (markAt t v) 65535 && ltb (3 * metCount t + 3) (length t)) new t
 
 -- one step more
 abbrev pub recordOne : Step → List ℕ → List ℕ

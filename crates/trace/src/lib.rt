@@ -28,7 +28,7 @@ fn meet(trace: &mut [u16], v: u16)
     ensures { λ _. ⌜ now (trace .exit) ≡ meetAt (now (trace .entry)) v ⌝ }
 {
     let at = 3 * wide(v) + 2;
-    if trace[at] != 0 {
+    if trace[at] != 65535 {
         return;
     }
     let count = trace[0];
