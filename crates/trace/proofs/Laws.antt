@@ -18,7 +18,7 @@ use lib.Dec.{eqb, ltb}
 use lib.ListN.{length, getD, set, take, length-set, replicate, length-replicate, getD-replicate}
 use lib.Seq.{getD-set-same, getD-set-other, getD-take, length-take-le}
 use borrow.Author.Tests.{eq-eqb, ne-eqb, lt-ltb, le-ltb}
-use Rattle.base.specs.Lists.{any, first, bit, keep, count, sum}
+use Rattle.base.specs.Lists.{first, bit, keep, count, sum}
 use Rattle.base.proofs.Lists.{count-in}
 use Rattle.base.proofs.Sums.{sum-one, sum-same, sum-add, sum-keep, sum-keep-le, count-once}
 use Rattle.base.proofs.Counts.{in-often, length-count}
