@@ -26,7 +26,7 @@ use Rattle.base.proofs.Sums.{sum-one, sum-le, sum-collect, in-sum}
 use Rattle.rules.specs.Survey.{Cell, cell, entry, entries, cellsOf, Survey}
 use Rattle.rules.specs.Edges.{pointEdges}
 use Rattle.rules.specs.Steps.{Step, Triangle, fan, fanFrom, leafSteps, twinOf, met, onward, loops, leafLoops, trianglesBy, allTriangles}
-use Rattle.rules.specs.Outputs.{entriesRight, accepted, surveyOf, numbers}
+use Rattle.rules.specs.Outputs.{entriesRight, surveyRefusal, accepted, surveyOf, numbers}
 use Rattle.octree.proofs.Accepted.{checked, accepted→, lawful}
 use Rattle.octree.proofs.Records.{cell-count, mark-of}
 use Rattle.geometry.proofs.Interface.{leavesOf, leave, enter, Paired, FaceLaws}
@@ -40,17 +40,16 @@ use Rattle.edges.specs.Tables.{slotsBelow, Twins}
 use Rattle.edges.proofs.Points.{keep-append, point-count}
 use Rattle.edges.proofs.Numbering.{below-le}
 use Rattle.edges.proofs.Readings.{edges-law, few-places}
-use Rattle.trace.specs.Trace.{Trace, Traced, meets}
+use Rattle.edges.proofs.Surveyed.{cells-few}
+use Rattle.trace.specs.Trace.{Traced, meets}
 use Rattle.loops.specs.Loops.{Leaf, into, Drawn, Loaded, Draws}
 use Rattle.loops.proofs.Slices.{length-numbers, numbers-append}
-use Rattle.loops.proofs.Blocks.{past-points}
-use Rattle.drawing.specs.Passes.{recordTriangles, trianglesTo, Drew}
-use Rattle.drawing.proofs.Slices.{into-nil, into-more}
-use Rattle.drawing.proofs.Passed.{few-records}
+use Rattle.leaves.specs.Leaves.{recordTriangles, trianglesTo, Drew}
+use Rattle.leaves.proofs.Slices.{into-nil, into-more}
 
 -- where there are no triangles, nothing is drawn
-pub drew-nothing : (ts : List Triangle) (out : List ℕ) (t : Trace) → ts ≡ [] → Traced [] t → Drew ts out out 0 t
-drew-nothing ts out t none h = record {
+pub drew-nothing : (limit : ℕ) (ts : List Triangle) (out t : List ℕ) → ts ≡ [] → Traced limit [] t → Drew limit ts out out 0 t
+drew-nothing limit ts out t none h = record {
   counted = sym (ap length none);
   wrote = sym (ap (λ (l : List Triangle). into (collect numbers l) out) none ∙ into-nil out);
   emptied = h;
@@ -136,6 +135,7 @@ module _ (tc tk : List ℕ) (clearance : Float) (ok : accepted tc tk clearance �
       record {
         points = length (pointEdges s);
         few = points-few;
+        long = omega (arith, points-few, tw .size);
         steps = leafSteps s c;
         twin = twinOf s;
         inside = λ v m. paired .within v (met-point (leafSteps s c) v (→true m));
@@ -143,8 +143,14 @@ module _ (tc tk : List ℕ) (clearance : Float) (ok : accepted tc tk clearance �
         permutes = permutes c i;
       }
 
+  unrefused : surveyRefusal tc tk ≡ 0
+  unrefused = accepted→ tc tk clearance (→true ok) .0
+
+  pub few-records : length tc / 4 ≤ 2049
+  few-records = let h = cells-few tc tk unrefused in omega arith
+
   right : T (entriesRight 0 0 (entries tc))
-  right = checked tc tk (accepted→ tc tk clearance (→true ok) .0) .entries-right
+  right = checked tc tk unrefused .entries-right
 
   module _ (n : ℕ) (h : n < length tc / 4) where
     inside : n < length (cellsOf tc)
@@ -174,26 +180,20 @@ module _ (tc tk : List ℕ) (clearance : Float) (ok : accepted tc tk clearance �
           (→true (ap not whole))
 
       -- what drawing the loops of the leaf's trace asks for, and what it gives
-      pub leaf-loaded : (twins : List ℕ) (t : Trace) → Twins s twins → Traced (leafSteps s (cellAt tc n)) t → Loaded twins t
-      leaf-loaded twins t tw traced = record { leaf = leaf-of twins tw (cellAt tc n) is-leaf; traced = traced }
+      module _ (twins : List ℕ) (limit : ℕ) (t : List ℕ) (tw : Twins s twins) (traced : Traced limit (leafSteps s (cellAt tc n)) t) where
+        pub leaf-loaded : Loaded twins t
+        leaf-loaded = record { limit = limit; leaf = leaf-of twins tw (cellAt tc n) is-leaf; traced = traced }
 
-      -- past the points of the survey there is no mark
-      pub past-marks : (twins : List ℕ) (t : Trace) → Twins s twins → Traced (leafSteps s (cellAt tc n)) t
-          → (v : ℕ) → length (pointEdges s) ≤ v → v < 14616 → getD (t .marks) v 0 ≡ 0
-      past-marks twins t tw traced v h b =
-          past-points twins t (record { leaf = leaf-of twins tw (cellAt tc n) is-leaf; traced = traced }) v h b
-
-      pub leaf-drawn : (twins : List ℕ) (t u : Trace) (before after : List ℕ) (r : ℕ) → Twins s twins → Traced (leafSteps s (cellAt tc n)) t
-          → Draws twins t before after r u → Drew (recordTriangles s (cellAt tc n)) before after r u
-      unfolding leafLoops
-      leaf-drawn twins t u before after r tw traced draws =
-          let d : Drawn (leaf-of twins tw (cellAt tc n) is-leaf) before after r u = draws (leaf-of twins tw (cellAt tc n) is-leaf) traced in
-          let same : collect fan (leafLoops s (cellAt tc n)) ≡ recordTriangles s (cellAt tc n) = sym record-leaf in
-          record {
-            counted = d .counted ∙ ap length same;
-            wrote = d .wrote ∙ ap (λ (ts : List Triangle). into (collect numbers ts) before) same;
-            emptied = d .emptied;
-          }
+        pub leaf-drawn : (u before after : List ℕ) (r : ℕ) → Draws twins t before after r u → Drew limit (recordTriangles s (cellAt tc n)) before after r u
+        unfolding leafLoops
+        leaf-drawn u before after r draws =
+            let d : Drawn limit (leaf-of twins tw (cellAt tc n) is-leaf) before after r u = draws limit (leaf-of twins tw (cellAt tc n) is-leaf) traced in
+            let same : collect fan (leafLoops s (cellAt tc n)) ≡ recordTriangles s (cellAt tc n) = sym record-leaf in
+            record {
+              counted = d .counted ∙ ap length same;
+              wrote = d .wrote ∙ ap (λ (ts : List Triangle). into (collect numbers ts) before) same;
+              emptied = d .emptied;
+            }
 
     record-few : length (recordTriangles s (cellAt tc n)) ≤ 14616
     unfolding leafLoops
@@ -242,11 +242,11 @@ module _ (tc tk : List ℕ) (clearance : Float) (ok : accepted tc tk clearance �
 
   -- ---- a pass over the records
 
-  pub drew-none : (out : List ℕ) (t : Trace) → Traced [] t → Drew (trianglesTo s 0) out out 0 t
-  drew-none out t h = drew-nothing (trianglesTo s 0) out t to-none h
+  pub drew-none : (limit : ℕ) (out t : List ℕ) → Traced limit [] t → Drew limit (trianglesTo s 0) out out 0 t
+  drew-none limit out t h = drew-nothing limit (trianglesTo s 0) out t to-none h
 
-  module _ (n : ℕ) (h : n < length tc / 4) (slice xs ys lent : List ℕ) (count r : ℕ) (t u : Trace) (d : Drew (trianglesTo s n) slice xs count t)
-      (e : Drew (recordTriangles s (cellAt tc n)) lent ys r u) where
+  module _ (n : ℕ) (h : n < length tc / 4) (limit : ℕ) (slice xs ys lent : List ℕ) (count r : ℕ) (t u : List ℕ) (d : Drew limit (trianglesTo s n) slice xs count t)
+      (e : Drew limit (recordTriangles s (cellAt tc n)) lent ys r u) where
     counted-more : count + r ≡ length (trianglesTo s (n + 1))
     counted-more =
         (λ i. d .counted i + e .counted i)
@@ -256,12 +256,12 @@ module _ (tc tk : List ℕ) (clearance : Float) (ok : accepted tc tk clearance �
     pub count-room : count + r ≤ 29948184
     count-room =
         let most = to-few (n + 1) (omega arith) in
-        let records = few-records tc tk clearance ok in
+        let records = few-records in
         omega (arith, counted-more)
 
     -- one more record, drawn into the part of the slice from `at` on
     pub drew-more : (at : ℕ) → at ≡ min (3 * count) (length xs) → lent ≡ take (length xs - at) (drop at xs)
-        → Drew (trianglesTo s (n + 1)) slice (take at xs ++ (ys ++ drop (length xs - at) (drop at xs))) (count + r) u
+        → Drew limit (trianglesTo s (n + 1)) slice (take at xs ++ (ys ++ drop (length xs - at) (drop at xs))) (count + r) u
     drew-more at is part =
         let front = collect numbers (trianglesTo s n) in
         let new = collect numbers (recordTriangles s (cellAt tc n)) in
@@ -276,9 +276,9 @@ module _ (tc tk : List ℕ) (clearance : Float) (ok : accepted tc tk clearance �
         }
 
   -- all records
-  pub drew-all : (n : ℕ) → n ≡ length tc / 4 → (slice xs : List ℕ) (count : ℕ) (t : Trace) → Drew (trianglesTo s n) slice xs count t
-      → Drew (allTriangles s) slice xs count t
-  drew-all n is slice xs count t d =
+  pub drew-all : (n : ℕ) → n ≡ length tc / 4 → (limit : ℕ) (slice xs : List ℕ) (count : ℕ) (t : List ℕ) → Drew limit (trianglesTo s n) slice xs count t
+      → Drew limit (allTriangles s) slice xs count t
+  drew-all n is limit slice xs count t d =
       let all : trianglesTo s n ≡ allTriangles s = ap (trianglesTo s) is ∙ to-all in
       record {
         counted = d .counted ∙ ap length all;
