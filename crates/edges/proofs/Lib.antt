@@ -9,9 +9,6 @@ pub mod Lawfully
 pub mod Readings
 pub mod Numbering
 pub mod Descent
-pub mod Climbing
-pub mod Twins
-pub mod TwinSlots
+pub mod Seeking
+pub mod PointSlots
 pub mod Places
-pub mod Enquiring
-pub mod Staying

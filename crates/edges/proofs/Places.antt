@@ -19,7 +19,7 @@ use Rattle.records.proofs.Found.{corner-found}
 use Rattle.edges.specs.Tables.{placeAt, slotEdge, crossedSlot, Lowest, UpperEnd}
 use Rattle.edges.proofs.Find.{found-self}
 use Rattle.edges.proofs.Readings.{lowest-read}
-use Rattle.edges.proofs.TwinSlots.{slot-edge, slot-odd-edge}
+use Rattle.edges.proofs.PointSlots.{slot-edge, slot-odd-edge}
 
 -- the corner at a record's place is the record
 pub record-corner : (t : List ℕ) → Bytes t → rising (placesOf t) ≡ true → (k : ℕ) → k < length t / 10 → cornerRecord t k ≡ cornerAt (cornersOf t)

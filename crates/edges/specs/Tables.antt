@@ -1,6 +1,6 @@
 -- The tables in which drawing and the enquiry look edges and points up, and what each of them holds, of a survey at a clearance.
 -- A slot stands for an axis and a corner record: 4,872 slots for each axis, so slot 4,872 n + k is for record k on the axis with number n.
-use Prim.Native.Nat.{ℕ, suc, _+_, _*_, _/_, _%_, _^_, _≤_, _<_, min, max}
+use Prim.Native.Nat.{ℕ, _+_, _*_, _/_, _%_, _^_, _≤_, _<_, min, max}
 use mathlib.Core.Path.{_≡_}
 use mathlib.Core.Bool.{Bool, false, _&&_, cond}
 use mathlib.Core.List.{List, [], _∷_}
@@ -11,7 +11,7 @@ use Rattle.base.specs.Lists.{keep, collect, count, bit}
 use Rattle.base.specs.Grid.{Place, origin, Axis, axes, axisNumber, axisOf, move, same}
 use Rattle.rules.specs.Survey.{Cell, cellsOf, cornersOf, wetAt, Survey}
 use Rattle.rules.specs.Edges.{CellEdge, edge, isEdge, odd, carrier}
-use Rattle.rules.specs.Steps.{above, other, twinOf}
+use Rattle.rules.specs.Steps.{twinOf}
 use Rattle.rules.specs.Closing.{cellEdgesOn}
 use Rattle.records.specs.Keys.{placesOf}
 use Rattle.cells.specs.Laid.{cellAt}
@@ -153,11 +153,3 @@ pub record CarrierSlot (s : Survey) (a : Axis) (p : Place) (l i : ℕ) : Type 0 
 pub record Sought (tc tk : List ℕ) (a : Axis) (p : Place) (l r : ℕ) : Type 0 where
   pub found : r < length tk / 10 → T (isEdge (cellsOf tc) a p l) × (placeAt (placesOf tk) r ≡ p)
   pub none : length tk / 10 ≤ r → isEdge (cellsOf tc) a p l ≡ false
-
--- What climbing from the edge of level l at corner record k gives: the corner record at which the edge above starts, or the number of records where no cell has
--- it; the one at its upper end; and the one at which its other half starts.
-pub record Risen (tc tk : List ℕ) (a : Axis) (k l start end half : ℕ) : Type 0 where
-  pub sought : Sought tc tk a (above a (placeAt (placesOf tk) k) l) (suc l) start
-  pub upper : start < length tk / 10 → UpperEnd tk a start (suc l) end
-  pub half-inside : start < length tk / 10 → half < length tk / 10
-  pub half-place : start < length tk / 10 → placeAt (placesOf tk) half ≡ other a (placeAt (placesOf tk) k) l

@@ -9,7 +9,6 @@ ghost use Rattle.rules.specs.Survey.{cellsOf, cornersOf};
 ghost use Rattle.rules.specs.Edges.{edge, isEdge, spotOn};
 ghost use Rattle.rules.specs.Outputs.{surveyRefusal, accepted, surveyOf};
 ghost use Rattle.places.specs.Places.{asSpot};
-ghost use Rattle.rules.specs.Steps.{isUpper};
 ghost use Rattle.records.specs.Keys.{placesOf};
 ghost use Rattle.edges.specs.Tables.{placeAt, Wets, Lowest, Far, UpperEnd, OddEdge, CarrierSlot};
 ghost use Rattle.edges.specs.Searching.{Corners};
@@ -81,16 +80,6 @@ pub fn carrier_slot(
         k = odd_half(wets, k, middle);
     }
     4872 * (axis as usize) + k
-}
-
-// The edge is the upper half of the edge above it.
-pub fn is_upper(corners: &[u8], axis: u32, k: usize, level: u8) -> bool
-    requires { ⌜ (k < length (now corners) / 10) × (level ≤ 10) ⌝ }
-    ensures { λ r. ⌜ r ≡ isUpper (axisOf axis) (placeAt (placesOf (now (corners .entry))) k) level ⌝ }
-{
-    let size = cells::size_of(level);
-    let v = places::coordinate(records::corner_at(corners, k), axis) as u64;
-    v / size % 2 == 1
 }
 
 // The place of the point on an odd edge between two corner records: reckoned from its dry end.

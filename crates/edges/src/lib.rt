@@ -1,4 +1,4 @@
-// Edges and crossing points of a survey: the tables of levels and numbers, the point of an odd edge, twins, and the edge enquiry.
+// Edges and crossing points of a survey: the tables of levels and numbers, the point of an odd edge, and the writer of all points.
 // Uses records, reader, cells, checks, octants and places. specs/ says what each table holds.
 ghost use mathlib.Core.Path.{_≡_};
 ghost use mathlib.Core.Bool.{true, cond};
@@ -13,19 +13,15 @@ ghost use Rattle.rules.specs.Edges.{edge, pointEdges, pointOf, spotOn};
 ghost use Rattle.places.specs.Places.{asSpot};
 ghost use Rattle.rules.specs.Outputs.{rising, surveyRefusal, accepted, surveyOf, pointFloats, written};
 ghost use Rattle.records.specs.Keys.{keyOf, placesOf, Short};
-ghost use Rattle.edges.specs.Tables.{edgesOf, placeAt, crossedSlot, slotsBelow, slotEdge, CellLevels, Levels, Lowest};
-ghost use Rattle.edges.specs.Tables.{Highest, Far, Wets, Numbers, Slots, Twins, OddEdge, Sought};
+ghost use Rattle.edges.specs.Tables.{edgesOf, placeAt, crossedSlot, slotEdge, CellLevels, Levels, Lowest};
+ghost use Rattle.edges.specs.Tables.{Highest, Far, Wets, Numbers, Slots, OddEdge, Sought};
 ghost use Rattle.octants.specs.Octants.{Octants};
 ghost use Rattle.edges.specs.Numbering.{Numbered};
-ghost use Rattle.rules.specs.Outputs.{enquiry, asked, answered, StaysOn};
 use places::Point;
-use rules::Answer;
 
-mod answers;
-mod ends;
-mod keys;
+pub mod ends;
+pub mod keys;
 mod noting;
-mod pairs;
 
 // The tables of levels and upper ends, filled: of the edges of all cells, record by record.
 pub fn fill_levels(
@@ -65,7 +61,7 @@ pub fn fill_wets(corners: &[u8], clearance: f32, wets: &mut [u8])
 }
 
 // The edge of the lowest level at a slot is crossed.
-fn is_crossed(
+pub fn is_crossed(
     cells: &[u8],
     corners: &[u8],
     clearance: f32,
@@ -167,33 +163,6 @@ pub fn number_slots(
     n
 }
 
-// How many crossed slots come before a slot.
-fn count_crossed(
-    cells: &[u8],
-    corners: &[u8],
-    clearance: f32,
-    wets: &[u8],
-    lowest: &[u8],
-    far: &[u16],
-    slot: usize,
-) -> usize
-    requires { ⌜ accepted (now cells) (now corners) clearance ≡ true ⌝ }
-    requires { ⌜ Wets (now corners) clearance (now wets) ⌝ }
-    requires { ⌜ Lowest (now cells) (now corners) (now lowest) ⌝ }
-    requires { ⌜ Far (now cells) (now corners) (now far) ⌝ }
-    requires { ⌜ slot < 14616 ⌝ }
-    ensures { λ r. ⌜ r ≡ length (slotsBelow (surveyOf (now (cells .entry)) (now (corners .entry)) clearance) slot) ⌝ }
-{
-    let mut n: usize = 0;
-    let mut i: usize = 0;
-    while i < slot {
-        let crossed = is_crossed(cells, corners, clearance, wets, lowest, far, i);
-        n += keys::mark(crossed) as usize;
-        i += 1;
-    }
-    n
-}
-
 // The point of an odd edge: the number of the slot that carries it.
 pub fn point_of(
     cells: &[u8],
@@ -231,7 +200,7 @@ pub fn point_of(
 }
 
 // The corner record at which the edge of this level from the place with this key starts; the number of records where no cell has the edge.
-fn edge_record(
+pub fn edge_record(
     cells: &[u8],
     corners: &[u8],
     clearance: f32,
@@ -262,50 +231,8 @@ fn edge_record(
     k
 }
 
-// The table of twins, filled for the n points.
-pub fn fill_twins(
-    cells: &[u8],
-    corners: &[u8],
-    clearance: f32,
-    wets: &[u8],
-    lowest: &[u8],
-    highest: &[u8],
-    far: &[u16],
-    numbers: &[u16],
-    slots: &[u16],
-    n: usize,
-    twins: &mut [u16],
-)
-    requires { ⌜ accepted (now cells) (now corners) clearance ≡ true ⌝ }
-    requires { ⌜ Wets (now corners) clearance (now wets) ⌝ }
-    requires { ⌜ Lowest (now cells) (now corners) (now lowest) ⌝ }
-    requires { ⌜ Highest (now cells) (now corners) (now highest) ⌝ }
-    requires { ⌜ Far (now cells) (now corners) (now far) ⌝ }
-    requires { ⌜ Numbers (surveyOf (now cells) (now corners) clearance) (now numbers) ⌝ }
-    requires { ⌜ Slots (surveyOf (now cells) (now corners) clearance) (now slots) ⌝ }
-    requires { ⌜ (n ≡ length (pointEdges (surveyOf (now cells) (now corners) clearance))) × (length (now twins) ≡ 14616) ⌝ }
-    ensures { λ _. ⌜ Twins (surveyOf (now (cells .entry)) (now (corners .entry)) clearance) (now (twins .exit)) ⌝ }
-{
-    let mut v: usize = 0;
-    while v < n {
-        twins[v] = pairs::twin_of(
-            cells,
-            corners,
-            clearance,
-            wets,
-            lowest,
-            highest,
-            far,
-            numbers,
-            slots,
-            v,
-        );
-        v += 1;
-    }
-}
-
 // The place of the point of a crossed slot.
-fn slot_point(
+pub fn slot_point(
     cells: &[u8],
     corners: &[u8],
     clearance: f32,
@@ -357,59 +284,4 @@ pub fn write_points(
         );
         v += 1;
     }
-}
-
-// The edge enquiry: document 01, "Edges, points and places". By axis (0 to 2), lower end and length.
-pub fn enquire(
-    cells: &[u8],
-    corners: &[u8],
-    clearance: f32,
-    axis: u32,
-    x: u32,
-    y: u32,
-    z: u32,
-    size: u32,
-) -> Answer
-    ensures exact { λ r. ⌜ answered r ≡ enquiry (now (cells .entry)) (now (corners .entry)) clearance axis (record { x = x; y = y; z = z }) size ⌝ }
-    ensures on_edge { λ r. ⌜ StaysOn (surveyOf (now (cells .entry)) (now (corners .entry)) clearance) (asked axis (record { x = x; y = y; z = z }) size)
-        (answered r) ⌝ }
-{
-    let mut keys = [0u64; 2049];
-    let mut levels = [0u8; 2049];
-    let mut octants = [0u16; 16392];
-    let number = checks::refusal(
-        cells,
-        corners,
-        clearance,
-        &mut keys,
-        &mut levels,
-        &mut octants,
-    );
-    if number != 0 {
-        return Answer::Refused(number);
-    }
-    if axis > 2 {
-        return Answer::Refused(11);
-    }
-    if x > 1024 {
-        return Answer::Refused(11);
-    }
-    if y > 1024 {
-        return Answer::Refused(11);
-    }
-    if z > 1024 {
-        return Answer::Refused(11);
-    }
-    answers::enquire_accepted(
-        cells,
-        corners,
-        clearance,
-        &levels,
-        &octants,
-        axis,
-        x as u16,
-        y as u16,
-        z as u16,
-        keys::level_of(size),
-    )
 }

@@ -1,5 +1,5 @@
 -- `edges::edge_record` meets its contract: the record at the place, and the levels there, say whether some cell has the edge.
-use Rattle.edges.proofs.Twins.{nowhere, at-place, sought-miss, sought-hit}
+use Rattle.edges.proofs.Seeking.{nowhere, at-place, sought-miss, sought-hit}
 use Rattle.edges.proofs.Readings.{corners}
 use Rattle.base.specs.Grid.{axisOf}
 use mathlib.Core.Logic.{inl, inr}

@@ -8,7 +8,7 @@ use Rattle.rules.specs.Edges.{spotOn}
 use Rattle.rules.specs.Survey.{cornersOf}
 use Rattle.edges.specs.Tables.{OddEdge, UpperEnd}
 use Rattle.edges.proofs.Places.{slot-edge-read}
-use Rattle.edges.proofs.TwinSlots.{slot-odd-edge, slot-far-end}
+use Rattle.edges.proofs.PointSlots.{slot-odd-edge, slot-far-end}
 use Rattle.edges.proofs.Readings.{corners, no-refusal}
 use Rattle.edges.proofs.Surveyed.{edge-shallow}
 use borrow.Author.Needs.{needs}

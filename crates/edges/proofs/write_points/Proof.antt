@@ -12,7 +12,7 @@ use Rattle.rules.specs.Outputs.{surveyOf, written}
 use Rattle.places.specs.Places.{asSpot, withSpot}
 use Rattle.places.proofs.Stored.{floats, stored-length, written-turn, written-points}
 use Rattle.edges.specs.Tables.{slotsBelow}
-use Rattle.edges.proofs.TwinSlots.{slot-inside, slot-crossed, point-edge-is, points-few, points-slots}
+use Rattle.edges.proofs.PointSlots.{slot-inside, slot-crossed, point-edge-is, points-few, points-slots}
 use borrow.Author.Needs.{needs}
 use Rattle.edges.proofs.write_points.Statement.{statement}
 use Rattle.edges.proofs.write_points.Tie as tie
