@@ -1,19 +1,17 @@
 -- What stands in the table of crossings of an accepted survey: at an odd edge its point, which is below the point count, at an even edge 65,535.
 use Prim.Native.Nat.{ℕ, _+_, _*_, _/_, _<_}
-use mathlib.Core.Path.{_≡_, sym, ap, _∙_, subst}
+use mathlib.Core.Path.{_≡_, sym, _∙_, subst}
 use mathlib.Core.Logic.{_⊎_, inl, inr}
-use mathlib.Core.Bool.{true, false, cond}
+use mathlib.Core.Bool.{true, false}
 use mathlib.Core.List.{List}
-use native.Mathlib.Omega.{arith}
 use lib.Dec.{T}
 use lib.ListN.{length, getD}
 use lib.Ieee.{Float}
 use Rattle.base.proofs.Tests.{→true, true→, either}
 use Rattle.rules.specs.Survey.{Survey}
-use Rattle.rules.specs.Edges.{CellEdge, odd, carrier, pointEdges, pointOf}
+use Rattle.rules.specs.Edges.{CellEdge, carrier, pointEdges, pointOf}
 use Rattle.rules.specs.Closing.{isOdd}
 use Rattle.rules.specs.Outputs.{accepted, surveyOf}
-use Rattle.octree.specs.Lawful.{Lawful}
 use Rattle.octree.proofs.Accepted.{lawful}
 use Rattle.octree.proofs.Halves.{carrier-crossed}
 use Rattle.octree.proofs.Points.{crossed-carries}
@@ -37,7 +35,8 @@ module _ (tc tk : List ℕ) (clearance : Float) (ok : accepted tc tk clearance �
 
   -- the point of an odd edge is one of the survey
   pub odd-below : T (isOdd (surveyOf tc tk clearance) (edgeAt (cellAt tc n) e))
-      → (getD t (13 * n + e) 0 ≡ pointOf (surveyOf tc tk clearance) (edgeAt (cellAt tc n) e)) × (getD t (13 * n + e) 0 < length (pointEdges (surveyOf tc tk clearance)))
+      → (getD t (13 * n + e) 0 ≡ pointOf (surveyOf tc tk clearance) (edgeAt (cellAt tc n) e))
+      × (getD t (13 * n + e) 0 < length (pointEdges (surveyOf tc tk clearance)))
   unfolding surveyOf pointOf
   odd-below o =
       let d = edgeAt (cellAt tc n) e in

@@ -5,7 +5,7 @@ use mathlib.Core.Bool.{Bool, cond}
 use mathlib.Core.List.{List, [], _∷_, map}
 use lib.ListN.{length, getD}
 use Rattle.base.specs.Lists.{collect, bit}
-use Rattle.base.specs.Grid.{Place, origin, X, axes}
+use Rattle.base.specs.Grid.{origin, X, axes}
 use Rattle.rules.specs.Survey.{Cell, cellCorners, Survey}
 use Rattle.rules.specs.Edges.{CellEdge, edge, odd, pointOf}
 use Rattle.rules.specs.Closing.{cellEdgesOn}
