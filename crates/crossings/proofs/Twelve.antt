@@ -46,14 +46,14 @@ module _ (e : ℕ) (g : e < 12) where
     corner i = getD (cellCorners c) i origin
 
     -- edge e is on axis e / 4 and starts at its corner
-    starting : edgeAt c e ≡ edge (axisOf (e / 4)) (getD (cellCorners c) (getD starts e 0) origin) (c .level)
+    pub starting : edgeAt c e ≡ edge (axisOf (e / 4)) (getD (cellCorners c) (getD starts e 0) origin) (c .level)
     starting =
         let from : ℕ → CellEdge = λ i. edge (axisOf (i / 4)) (corner (getD starts i 0)) (c .level) in
         let twelve : collect (cellEdgesOn c) axes ≡ map from (count 0 12) = refl in
         ap (λ (es : List CellEdge). getD es e (edge X origin 0)) twelve ∙ get-table from (edge X origin 0) 12 e g
 
     -- and ends at the other
-    ending : getD (cellCorners c) (getD ends e 0) origin ≡ move (axisOf (e / 4)) (size c) (getD (cellCorners c) (getD starts e 0) origin)
+    pub ending : getD (cellCorners c) (getD ends e 0) origin ≡ move (axisOf (e / 4)) (size c) (getD (cellCorners c) (getD starts e 0) origin)
     ending =
         let from : ℕ → Place = λ i. move (axisOf (i / 4)) (size c) (corner (getD starts i 0)) in
         let to : ℕ → Place = λ i. corner (getD ends i 0) in
