@@ -179,6 +179,9 @@ module _ (tc tk : List ℕ) (clearance : Float) (ok : accepted tc tk clearance �
           keep-in (λ c. not (c .split)) (cellsOf tc) (cellAt tc n) (in-get (cellsOf tc) n (cell origin 10 false) inside)
           (→true (ap not whole))
 
+      pub met-inside : (v : ℕ) → meets (leafSteps s (cellAt tc n)) v ≡ true → v < length (pointEdges s)
+      met-inside v m = laws .paired (cellAt tc n) is-leaf .within v (met-point (leafSteps s (cellAt tc n)) v (→true m))
+
       -- what drawing the loops of the leaf's trace asks for, and what it gives
       module _ (twins : List ℕ) (limit : ℕ) (t : List ℕ) (tw : Twins s twins) (traced : Traced limit (leafSteps s (cellAt tc n)) t) where
         pub leaf-loaded : Loaded twins t
