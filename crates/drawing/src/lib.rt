@@ -78,7 +78,16 @@ fn draw_few(
     let mut trace = [65535u16; 1537];
     trace[0] = 0;
     let mut scratch = [0u32; 3072];
-    settle(cells, across, crossings, twins, &mut trace, &mut scratch, write, out)
+    settle(
+        cells,
+        across,
+        crossings,
+        twins,
+        &mut trace,
+        &mut scratch,
+        write,
+        out,
+    )
 }
 
 // The same for as many points as any survey has.
@@ -98,7 +107,16 @@ fn draw_many(
     let mut trace = [65535u16; 43849];
     trace[0] = 0;
     let mut scratch = [0u32; 24576];
-    settle(cells, across, crossings, twins, &mut trace, &mut scratch, write, out)
+    settle(
+        cells,
+        across,
+        crossings,
+        twins,
+        &mut trace,
+        &mut scratch,
+        write,
+        out,
+    )
 }
 
 // The triangles of a survey with n points: how many there are. They are written where that is asked for and the slice has room for all of them.

@@ -17,6 +17,21 @@ use Rattle.loops.specs.Loops.{Loaded, Draws}
 use Rattle.leaves.specs.Leaves.{Ready, survey, recordTriangles, Drew}
 use Rattle.leaves.proofs.Leaves.{drew-nothing, record-split, met-inside, leaf-loaded, leaf-drawn}
 
+-- the tables are ready again where the trace is empty again
+abbrev pub still : (tc across crossings twins trace after : List ℕ) (d : Ready tc across crossings twins trace) → Traced (d .limit) [] after
+    → Ready tc across crossings twins after
+still tc across crossings twins trace after d empty = record {
+  corners = d .corners;
+  clearance = d .clearance;
+  passed = d .passed;
+  beyond = d .beyond;
+  crossed = d .crossed;
+  twin = d .twin;
+  limit = d .limit;
+  reach = d .reach;
+  empty = empty;
+}
+
 module _ (tc across crossings twins trace : List ℕ) (d : Ready tc across crossings twins trace) (n : ℕ) (inside : n < length tc / 4) where
   -- the record is split
   pub split-drawn : (out : List ℕ) → (entry tc n ≡ 0 → ⊥) → Drew (d .limit) (recordTriangles (survey d) (cellAt tc n)) out out 0 trace
@@ -33,7 +48,7 @@ module _ (tc across crossings twins trace : List ℕ) (d : Ready tc across cross
       (
         reaching tc (d .corners) (d .clearance) (d .passed) across crossings (d .beyond) (d .crossed) n inside,
         fitting tc (d .corners) (d .clearance) (d .passed) across crossings (d .beyond) (d .crossed) n inside (d .limit) (length trace) (d .empty .room)
-        (d .empty .small) within,
+            (d .empty .small) within,
       ),
     )
 
