@@ -3,21 +3,40 @@
 --     copied                  the scratch had room for all
 --     redrawn                 it had not, and the slice has
 -- Assumes nothing.
-use Prim.Native.Nat.{ℕ, _*_, _≤_, _<_}
+use Prim.Native.Nat.{ℕ, zero, suc, _+_, _*_, _≤_, _<_}
 use native.Mathlib.Omega.{arith}
-use mathlib.Core.Path.{_≡_, refl, sym, ap, _∙_}
-use mathlib.Core.Bool.{Bool, true, false, _&&_, cond}
-use mathlib.Core.List.{List, _++_}
+use mathlib.Core.Path.{_≡_, refl, sym, ap, _∙_, subst}
+use mathlib.Core.Bool.{Bool, true, false, not, _&&_, cond}
+use mathlib.Core.List.{List, [], _∷_, _++_}
 use lib.Dec.{leb}
-use lib.ListN.{length, take, drop}
-use lib.Seq.{take-append-seam}
+use lib.ListN.{length, getD, set, take, drop, replicate, length-set, length-replicate}
+use lib.Seq.{take-append-seam, take-all}
 use borrow.Author.Tests.{le-leb, lt-leb}
 use Rattle.base.specs.Lists.{collect}
 use Rattle.rules.specs.Steps.{Triangle}
-use Rattle.rules.specs.Outputs.{numbers, written}
+use Rattle.rules.specs.Edges.{pointEdges}
+use Rattle.rules.specs.Outputs.{surveyOf, numbers, written}
+use Rattle.trace.specs.Trace.{Traced}
+use Rattle.trace.proofs.Laws.{fresh}
 use Rattle.loops.proofs.Slices.{into-all, length-numbers}
-use Rattle.leaves.specs.Leaves.{Drew}
-use Rattle.drawing.specs.Passes.{Settled}
+use Rattle.leaves.specs.Leaves.{Ready, Drew}
+use Rattle.drawing.specs.Passes.{Known, Settled}
+
+unmarked : (b : Bool) → not b ≡ true → b ≡ false
+unmarked true e = sym e
+unmarked false e = refl
+
+marked : (b : Bool) → not b ≡ false → b ≡ true
+marked true e = refl
+marked false e = sym e
+
+-- one element more is copied
+pub copy-more : (from to : List ℕ) (i : ℕ) → i < length from → i < length to
+    → set (take i from ++ drop i to) i (getD from i 0) ≡ take (suc i) from ++ drop (suc i) to
+copy-more [] to i h k = absurd (omega arith)
+copy-more (x ∷ from) [] i h k = absurd (omega arith)
+copy-more (x ∷ from) (y ∷ to) zero h k = refl
+copy-more (x ∷ from) (y ∷ to) (suc i) h k = ap (λ (l : List ℕ). x ∷ l) (copy-more from to i (omega arith) (omega arith))
 
 module _ (limit : ℕ) (ts : List Triangle) (before after : List ℕ) (r : ℕ) (trace : List ℕ) (d : Drew limit ts before after r trace) where
   size : length (collect numbers ts) ≡ 3 * r
@@ -27,28 +46,52 @@ module _ (limit : ℕ) (ts : List Triangle) (before after : List ℕ) (r : ℕ) 
   whole : 3 * r ≤ length before → after ≡ written (collect numbers ts) before
   whole h = d .wrote ∙ into-all (collect numbers ts) before (omega (arith, size))
 
-  pub unwanted : (slice : List ℕ) → Settled ts false slice slice r
-  unwanted slice = record { counted = d .counted; wrote = refl }
-
-  pub too-short : (slice : List ℕ) (write : Bool) → length slice < 3 * r → Settled ts write slice slice r
-  too-short slice true h = record {
+  -- what is left in a slice, where it is known whether it was written
+  settled : (slice new : List ℕ) (write : Bool) (test : Bool) → write && leb (3 * r) (length slice) ≡ test
+      → new ≡ cond test (written (collect numbers ts) slice) slice → Settled ts write slice new r
+  settled slice new write test e is = record {
     counted = d .counted;
-    wrote = sym (ap (λ (b : Bool). cond b (written (collect numbers ts) slice) slice) (lt-leb (3 * r) (length slice) h));
+    wrote = is ∙ sym (ap (λ (b : Bool). cond b (written (collect numbers ts) slice) slice) e);
   }
-  too-short slice false h = unwanted slice
 
-  pub copied : (slice : List ℕ) → 3 * r ≤ length before → 3 * r ≤ length slice → Settled ts true slice (take (3 * r) after ++ drop (3 * r) slice) r
-  copied slice room h =
+  pub unwanted : (slice : List ℕ) (write : Bool) → not write ≡ true → Settled ts write slice slice r
+  unwanted slice write e = settled slice slice write false (ap (λ (w : Bool). w && leb (3 * r) (length slice)) (unmarked write e)) refl
+
+  pub too-short : (slice : List ℕ) (write : Bool) → not write ≡ false → length slice < 3 * r → Settled ts write slice slice r
+  too-short slice write e h =
+      settled slice slice write false (ap (λ (w : Bool). w && leb (3 * r) (length slice)) (marked write e) ∙ lt-leb (3 * r) (length slice) h) refl
+
+  fits : (slice : List ℕ) (write : Bool) → not write ≡ false → 3 * r ≤ length slice → write && leb (3 * r) (length slice) ≡ true
+  fits slice write e h = ap (λ (w : Bool). w && leb (3 * r) (length slice)) (marked write e) ∙ le-leb (3 * r) (length slice) h
+
+  pub copied : (slice new : List ℕ) (write : Bool) → not write ≡ false → 3 * r ≤ length before → 3 * r ≤ length slice
+      → new ≡ take (3 * r) after ++ drop (3 * r) slice → Settled ts write slice new r
+  copied slice new write e room h is =
       let front : take (3 * r) after ≡ collect numbers ts =
-      (λ i. take (size (~ i)) (whole room i)) ∙ take-append-seam (collect numbers ts) (drop (length (collect numbers ts)) before) in
-      record {
-        counted = d .counted;
-        wrote = (λ i. front i ++ drop (size (~ i)) slice)
-            ∙ sym (ap (λ (b : Bool). cond b (written (collect numbers ts) slice) slice) (le-leb (3 * r) (length slice) h));
-      }
+      (λ i. take (sym size i) (whole room i)) ∙ take-append-seam (collect numbers ts) (drop (length (collect numbers ts)) before) in
+      settled slice new write true (fits slice write e h) (is ∙ (λ i. front i ++ drop (sym size i) slice))
 
-  pub redrawn : 3 * r ≤ length before → Settled ts true before after r
-  redrawn h = record {
-    counted = d .counted;
-    wrote = whole h ∙ sym (ap (λ (b : Bool). cond b (written (collect numbers ts) before) before) (le-leb (3 * r) (length before) h));
-  }
+  pub redrawn : (write : Bool) → not write ≡ false → 3 * r ≤ length before → Settled ts write before after r
+  redrawn write e h = settled before after write true (fits before write e h) (whole h)
+
+-- a fresh trace
+pub made : (limit : ℕ) → limit ≤ 14616 → Traced limit [] (set {A = ℕ} (replicate (3 * limit + 1) 65535) 0 0)
+made limit small =
+    let whole = set {A = ℕ} (replicate (3 * limit + 1) 65535) 0 0 in
+    let size : length whole ≡ 3 * limit + 1 = length-set {A = ℕ} (replicate (3 * limit + 1) 65535) 0 0 ∙ length-replicate {A = ℕ} (3 * limit + 1) 65535 in
+    subst (Traced limit []) (take-all (3 * limit + 1) whole (omega (arith, size))) (fresh (3 * limit + 1) limit small (omega arith))
+
+-- the tables of a survey with n points, and a fresh trace with room for them
+abbrev pub ready : (tc across crossings twins trace : List ℕ) (n : ℕ) (k : Known tc across crossings twins n) (limit : ℕ)
+    → length (pointEdges (surveyOf tc (k .corners) (k .clearance))) ≤ limit → Traced limit [] trace → Ready tc across crossings twins trace
+ready tc across crossings twins trace n k limit reach empty = record {
+  corners = k .corners;
+  clearance = k .clearance;
+  passed = k .passed;
+  beyond = k .beyond;
+  crossed = k .crossed;
+  twin = k .twin;
+  limit = limit;
+  reach = reach;
+  empty = empty;
+}

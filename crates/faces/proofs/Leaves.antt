@@ -12,9 +12,9 @@ use lib.Dec.{T, eqb, eqb→eq, ltb}
 use lib.ListN.{length, getD}
 use lib.Pow.{pow-pos}
 use lib.Ieee.{Float}
-use borrow.Author.Tests.{lt-ltb, le-ltb, eq-eqb, ne-eqb}
-use Rattle.base.specs.Lists.{any, collect, count, position}
-use Rattle.base.specs.Grid.{Place, origin, Axis, along, move, same}
+use borrow.Author.Tests.{lt-ltb, le-ltb, ne-eqb}
+use Rattle.base.specs.Lists.{any, count, position}
+use Rattle.base.specs.Grid.{Place, Axis, along, move, same}
 use Rattle.base.proofs.Tests.{and→, either, not-both, below, →true}
 use Rattle.base.proofs.Lists.{in-get, in-count, position-of}
 use Rattle.base.proofs.Below.{any-position}
@@ -23,7 +23,7 @@ use Rattle.rules.specs.Survey.{Cell, cellsOf, Survey}
 use Rattle.rules.specs.Steps.{Side, face, sideLow, splitAcross, faceSteps, leafSteps}
 use Rattle.rules.specs.Outputs.{accepted, surveyOf}
 use Rattle.octree.specs.Lawful.{isCell, Octree}
-use Rattle.octree.proofs.Accepted.{Checked, checked, accepted→, lawful}
+use Rattle.octree.proofs.Accepted.{Checked, lawful}
 use Rattle.octree.proofs.Cells.{→cell}
 use Rattle.octree.proofs.Queue.{box}
 use Rattle.octree.proofs.Records.{cell-count, box-first}
@@ -32,9 +32,8 @@ use Rattle.trace.specs.Trace.{meets}
 use Rattle.across.specs.Across.{sideNumber, splitBeyond, Beyond}
 use Rattle.crossings.specs.Crossings.{Crossings}
 use Rattle.faces.specs.Faces.{rowSide, rowUpper, faceOn, rowSteps, smallTableSteps, sideTableSteps, leafTableSteps, Fits, Roomy, Reaching}
-use Rattle.faces.proofs.Rows.{rowFace}
 use Rattle.faces.proofs.Steps.{collect-same, row-steps-are}
-use Rattle.faces.proofs.Small.{smallSteps, whole-steps, small-are}
+use Rattle.faces.proofs.Small.{turned, smallSteps, whole-steps, checks-of, small-are}
 
 -- ---- the two rows on a side
 
@@ -65,7 +64,7 @@ not-itself false a l p e = omega (arith, ap (along a) e, along-put a (along a p 
 
 module _ (tc tk : List ℕ) (clearance : Float) (ok : accepted tc tk clearance ≡ true) where
   checks : Checked tc tk
-  checks = checked tc tk (accepted→ tc tk clearance (→true ok) .0)
+  checks = checks-of tc tk clearance ok
 
   count-is : length (cellsOf tc) ≡ length tc / 4
   count-is = cell-count tc (checks .entries-right)
@@ -179,10 +178,6 @@ module _ (tc tk : List ℕ) (clearance : Float) (ok : accepted tc tk clearance �
             ∙ ap (λ x. smallSteps s x (faceOn x (not (x .upper)) d .low) (d .level)) there
             ∙ ap (λ l. smallSteps s side (cond (not (side .upper)) (move (side .across) (2 ^ l) (d .low)) (d .low)) l) (sym (f .level-is))
             ∙ ap (λ p. smallSteps s side p (c .level)) (turned (side .upper) (move (side .across) (2 ^ c .level) (d .low)) (d .low) ∙ sym (f .low-is))
-          where
-            turned : (u : Bool) (p q : Place) → cond (not u) p q ≡ cond u q p
-            turned true p q = refl
-            turned false p q = refl
         go (inr e) =
             let (here, upper) = own-side i h in
             chosen 0 (wide .entry n i inside h ∙ not-found n inside side e)

@@ -1,13 +1,13 @@
 -- The sixteen patterns: the steps of a face edge by edge, and both edges of a step are odd. Computed tests.
 use Prim.Native.Nat.{ℕ, zero, suc, _<_}
-use mathlib.Core.Path.{_≡_, refl, sym, subst}
+use mathlib.Core.Path.{_≡_, refl}
 use mathlib.Core.Logic.{_⊎_, inl, inr}
 use mathlib.Core.Bool.{Bool, true, false, not, _&&_, _||_, Bool·beq}
 use lib.Dec.{T, T-not, ltb, lt→ltb}
 use Rattle.base.specs.Lists.{all, collect, count}
 use Rattle.base.proofs.Tests.{and→, or→}
 use Rattle.base.proofs.Lists.{all→in, count-in}
-use Rattle.rules.specs.Steps.{Step, steps}
+use Rattle.rules.specs.Steps.{steps}
 use native.Mathlib.Omega.{arith}
 use Rattle.faces.specs.Patterns.{stepFrom, patternOf, stepTo}
 

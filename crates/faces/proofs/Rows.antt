@@ -3,7 +3,7 @@
 use Prim.Native.Nat.{ℕ, zero, suc, _%_, _<_}
 use mathlib.Core.Path.{_≡_, refl, sym, ap, _∙_}
 use mathlib.Core.Bool.{Bool, true, false, _&&_}
-use mathlib.Core.List.{List, map}
+use mathlib.Core.List.{map}
 use native.Mathlib.Omega.{arith}
 use lib.Dec.{T, ltb, ltb→lt}
 use lib.ListN.{getD}
@@ -13,7 +13,7 @@ use Rattle.base.proofs.Tests.{and→}
 use Rattle.base.proofs.Lists.{all→in, count-in}
 use Rattle.base.proofs.Below.{get-table}
 use Rattle.rules.specs.Survey.{Cell, cell, size, cellCorners}
-use Rattle.rules.specs.Edges.{CellEdge, edge}
+use Rattle.rules.specs.Edges.{edge}
 use Rattle.rules.specs.Steps.{Side, upperSide, lowerSide, Face, face, faceCorner, faceEdge}
 use Rattle.across.specs.Across.{sideNumber}
 use Rattle.crossings.specs.Crossings.{edgeAt}

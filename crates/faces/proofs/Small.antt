@@ -1,8 +1,8 @@
 -- The steps in the small faces of a row, by the tables: they are those of the quarters or of the row, whatever bounds the way down; and they are those
 -- of the rules, where the row's cell lies across.
 use Prim.Native.Nat.{ℕ, zero, suc, pred, _+_, _/_, _^_, _≤_, _<_}
-use mathlib.Core.Path.{_≡_, refl, sym, ap, _∙_, subst}
-use mathlib.Core.Logic.{_⊎_, inl, inr}
+use mathlib.Core.Path.{_≡_, refl, sym, ap, _∙_}
+use mathlib.Core.Logic.{inl, inr}
 use mathlib.Core.Bool.{Bool, true, false, not, _&&_, _||_, cond}
 use mathlib.Core.List.{List, [], _∷_, _++_, append-assoc, append-nil}
 use native.Mathlib.Omega.{arith}
@@ -14,7 +14,7 @@ use Rattle.base.specs.Lists.{any, collect}
 use Rattle.base.specs.Grid.{Place, origin, Axis, X, Y, Z, move, same, octants}
 use Rattle.base.proofs.Tests.{→true, →false, tests-equal, eq→eqb}
 use Rattle.base.proofs.Lists.{In, in-get}
-use Rattle.rules.specs.Survey.{Cell, cell, cellsOf, cellCorners, entry, entries, Survey}
+use Rattle.rules.specs.Survey.{Cell, cell, cellsOf, entry, entries, Survey}
 use Rattle.rules.specs.Steps.{Side, Face, face, faceCorner, Step, splitAcross, smallFaces, faceSteps}
 use Rattle.rules.specs.Outputs.{entriesRight, accepted, surveyOf}
 use Rattle.octree.specs.Lawful.{isAt, isSplit}
@@ -120,6 +120,10 @@ any-same : {A : Type 0} (f g : A → Bool) (xs : List A) → ((x : A) → f x �
 any-same f g [] h = refl
 any-same f g (x ∷ xs) h = ap (λ b. b || any f xs) (h x) ∙ ap (λ b. g x || b) (any-same f g xs h)
 
+pub turned : {A : Type 0} (u : Bool) (x y : A) → cond (not u) x y ≡ cond u y x
+turned true x y = refl
+turned false x y = refl
+
 -- the cell at q shows the leaf this side of it
 across-split : (cells : List Cell) (side : Side) (l : ℕ) (q : Place)
     → any (splitAcross side (cond (side .upper) q (move (side .across) (2 ^ l) q)) l) cells ≡ isSplit cells l q
@@ -169,10 +173,13 @@ split-steps s side p l e =
 
 -- ---- the steps in the small faces of a row across
 
+pub checks-of : (tc tk : List ℕ) (clearance : Float) → accepted tc tk clearance ≡ true → Checked tc tk
+checks-of tc tk clearance ok = checked tc tk (accepted→ tc tk clearance (→true ok) .0)
+
 module _ (tc tk : List ℕ) (clearance : Float) (ok : accepted tc tk clearance ≡ true) (crossings : List ℕ)
     (table : Crossings (surveyOf tc tk clearance) tc crossings) (r : ℕ) (away : rowUpper r ≡ not (rowSide r .upper)) where
   checks : Checked tc tk
-  checks = checked tc tk (accepted→ tc tk clearance (→true ok) .0)
+  checks = checks-of tc tk clearance ok
 
   split-here : (m : ℕ) → m < length tc / 4 → any (splitAcross (rowSide r) (rowFace r (cellAt tc m) .low) (cellAt tc m .level))
       (surveyOf tc tk clearance .cells) ≡ not (eqb (entry tc m) 0)
@@ -185,10 +192,6 @@ module _ (tc tk : List ℕ) (clearance : Float) (ok : accepted tc tk clearance �
       ∙ across-split (cellsOf tc) (rowSide r) (c .level) (c .low)
       ∙ split-of (cellsOf tc) (lawful tc tk clearance (→true ok) .octree) c (in-get (cellsOf tc) m box (omega (arith, cell-count tc (checks .entries-right))))
       ∙ mark-of tc (checks .entries-right) box m h
-    where
-      turned : (u : Bool) (p q : Place) → cond (not u) p q ≡ cond u q p
-      turned true p q = refl
-      turned false p q = refl
 
   -- a child at a corner of the row shows the quarter there
   quarter-at : (m l : ℕ) → m < length tc / 4 → (entry tc m ≡ 0 → ⊥) → cellAt tc m .level ≡ suc l → (j : ℕ) → j < 4

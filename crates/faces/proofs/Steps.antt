@@ -11,16 +11,16 @@ use lib.ListN.{length, getD, List·getD-map}
 use lib.Ieee.{Float}
 use Rattle.base.specs.Lists.{collect, count, bit}
 use Rattle.base.specs.Grid.{Place, origin, move}
-use Rattle.base.proofs.Tests.{true→, →true}
+use Rattle.base.proofs.Tests.{true→}
 use Rattle.base.proofs.Lists.{In, get-any, in-count}
-use Rattle.rules.specs.Survey.{Cell, cellCorners, Survey}
+use Rattle.rules.specs.Survey.{cellCorners, Survey}
 use Rattle.rules.specs.Edges.{CellEdge, odd, pointOf}
 use Rattle.rules.specs.Steps.{Side, Face, faceCorner, faceEdge, Step, steps, saddleCut, faceSteps}
 use Rattle.rules.specs.Outputs.{surveyOf}
 use Rattle.cells.specs.Laid.{cellAt}
-use Rattle.crossings.specs.Crossings.{edgeAt, crossingOf, binary, wetMask, Crossings}
+use Rattle.crossings.specs.Crossings.{crossingOf, binary, wetMask, Crossings}
 use Rattle.faces.specs.Patterns.{wetDigit, stepFrom, patternOf, stepTo}
-use Rattle.faces.specs.Faces.{rowSide, rowUpper, rowCorner, rowEdge, rowPattern, edgeSteps, rowSteps}
+use Rattle.faces.specs.Faces.{rowSide, rowCorner, rowEdge, rowPattern, edgeSteps, rowSteps}
 use Rattle.faces.proofs.Patterns.{differ, steps-by-edge, step-odd}
 use Rattle.faces.proofs.Rows.{rowFace, turned-up, numbers-few, corner-is, edge-is}
 

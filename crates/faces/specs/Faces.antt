@@ -1,7 +1,7 @@
 -- The face steps of a leaf, by the tables of cells, of cells across and of crossings: in the shape of the rules' `leafSteps`.
 -- A row is a face of a cell as a leaf sees it. Row i, of six, is the leaf's own side i; row 6 + i is the side towards the leaf of a cell across its
 -- side i. Both are seen from outside the leaf, so right and up are those of side i.
-use Prim.Native.Nat.{ℕ, zero, suc, _+_, _*_, _/_, _%_, _^_, _≤_, _<_}
+use Prim.Native.Nat.{ℕ, zero, suc, _+_, _*_, _/_, _%_, _≤_, _<_}
 use mathlib.Core.Path.{_≡_}
 use mathlib.Core.Bool.{Bool, true, false, Bool·beq, cond}
 use mathlib.Core.List.{List, [], _∷_, map}

@@ -96,6 +96,14 @@ fn row_edge(row: usize, j: usize) -> usize
     wide(EDGES[row][j])
 }
 
+// The corner of a face at which quarter i is.
+fn quarter(i: usize) -> usize
+    requires { ⌜ i < 4 ⌝ }
+    ensures { λ r. ⌜ (r ≡ getD quarters i 0) × (r < 4) ⌝ }
+{
+    QUARTERS[i]
+}
+
 // 1 if corner j of a row is wet by the mask of its cell's wet corners, else 0.
 fn row_mark(mask: u16, row: usize, j: usize) -> usize
     requires { ⌜ (row < 12) × (j < 4) ⌝ }
@@ -160,7 +168,7 @@ fn small_steps(cells: &[u8], crossings: &[u16], trace: &mut [u16], row: usize, m
     }
     let mut i: usize = 0;
     while i < 4 {
-        let child = first + row_corner(row, QUARTERS[i]);
+        let child = first + row_corner(row, quarter(i));
         small_steps(cells, crossings, trace, row, child);
         i += 1;
     }

@@ -1,5 +1,3 @@
--- `drawing::draw_accepted` meets its contract: the tables, and what is drawn from them.
-use Rattle.drawing.proofs.Passed.{levels-fresh}
 use borrow.Author.Needs.{needs}
 use Rattle.drawing.proofs.draw_accepted.Statement.{statement}
 use Rattle.drawing.proofs.draw_accepted.Tie as tie
@@ -23,62 +21,73 @@ slice-aggregate-fill-tables-6 : tie.Need-slice-aggregate-fill-tables-6
 slice-aggregate-fill-tables-6 c = search needs
 
 fill-tables-requires : tie.Need-fill-tables-requires
-fill-tables-requires c κs =
-    let s = c .before .before .before .before .before .before .before .before .before .before .before .before .before in
-    let a = s .args in
-    let laid = s .pre .1 .0 .0 in (
-      s .pre .0,
-      (
-        (record { room = s .pre .1 .1 .1; level = λ n h. laid .entered n h .level }, s .pre .1 .0 .1),
-        (levels-fresh (a .cells .now) (a .corners .now) (a .clearance) (s .pre .0), (search needs, search needs, search needs, search needs)),
-      ),
-    )
+fill-tables-requires c κs = ?
 
-slice-aggregate-draw-tables : tie.Need-slice-aggregate-draw-tables
-slice-aggregate-draw-tables c = search needs
+slice-aggregate-fill : tie.Need-slice-aggregate-fill
+slice-aggregate-fill c = search needs
 
-slice-aggregate-draw-tables-2 : tie.Need-slice-aggregate-draw-tables-2
-slice-aggregate-draw-tables-2 c = search needs
+fill-requires : tie.Need-fill-requires
+fill-requires c κs = ?
 
-slice-aggregate-draw-tables-3 : tie.Need-slice-aggregate-draw-tables-3
-slice-aggregate-draw-tables-3 c = search needs
+slice-aggregate-fill-2 : tie.Need-slice-aggregate-fill-2
+slice-aggregate-fill-2 c = search needs
 
-slice-aggregate-draw-tables-4 : tie.Need-slice-aggregate-draw-tables-4
-slice-aggregate-draw-tables-4 c = search needs
+slice-aggregate-fill-3 : tie.Need-slice-aggregate-fill-3
+slice-aggregate-fill-3 c = search needs
 
-slice-aggregate-draw-tables-5 : tie.Need-slice-aggregate-draw-tables-5
-slice-aggregate-draw-tables-5 c = search needs
+slice-aggregate-fill-4 : tie.Need-slice-aggregate-fill-4
+slice-aggregate-fill-4 c = search needs
 
-slice-aggregate-draw-tables-6 : tie.Need-slice-aggregate-draw-tables-6
-slice-aggregate-draw-tables-6 c = search needs
+slice-aggregate-fill-5 : tie.Need-slice-aggregate-fill-5
+slice-aggregate-fill-5 c = search needs
 
-draw-tables-requires : tie.Need-draw-tables-requires
-draw-tables-requires c κs =
-    let s = c .before .before .before .before .before .before .before .before .before .before .before .before .before .before .before .before .before .before .before .before .before .before .before .before .before .before .before .before in
-    let f = c .before .before .before .before .before .before .before .before .before .before .before .before .before .before .fill-tables .ensures in (
-      record {
-        passed = s .pre .0;
-        wet = f .wet;
-        low = f .low;
-        end = f .end;
-        number = f .number;
-        twin = f .twin;
-        laid = s .pre .1 .0 .0;
-        keys-reach = s .pre .1 .1 .0;
-        levels-reach = s .pre .1 .1 .1;
-        octant = s .pre .1 .0 .1;
-      },
-      (f .slot, f .count),
-    )
+slice-aggregate-fill-6 : tie.Need-slice-aggregate-fill-6
+slice-aggregate-fill-6 c = search needs
+
+fill-requires-2 : tie.Need-fill-requires-2
+fill-requires-2 c κs = ?
+
+mul-write : tie.Need-mul-write
+mul-write c = ?
+
+slice-aggregate-draw-triangles : tie.Need-slice-aggregate-draw-triangles
+slice-aggregate-draw-triangles c = search needs
+
+slice-aggregate-draw-triangles-2 : tie.Need-slice-aggregate-draw-triangles-2
+slice-aggregate-draw-triangles-2 c = search needs
+
+slice-aggregate-draw-triangles-3 : tie.Need-slice-aggregate-draw-triangles-3
+slice-aggregate-draw-triangles-3 c = search needs
+
+draw-triangles-requires : tie.Need-draw-triangles-requires
+draw-triangles-requires c κs = ?
+
+shortage-requires : tie.Need-shortage-requires
+shortage-requires c κs = ?
+
+slice-aggregate-write-points : tie.Need-slice-aggregate-write-points
+slice-aggregate-write-points c = search needs
+
+slice-aggregate-write-points-2 : tie.Need-slice-aggregate-write-points-2
+slice-aggregate-write-points-2 c = search needs
+
+slice-aggregate-write-points-3 : tie.Need-slice-aggregate-write-points-3
+slice-aggregate-write-points-3 c = search needs
+
+write-points-requires : tie.Need-write-points-requires
+write-points-requires c κs = ?
+
+result-requires : tie.Need-result-requires
+result-requires c κs = ?
 
 same-length : tie.Need-same-length
-same-length c = search needs
+same-length c = ?
 
 same-length-2 : tie.Need-same-length-2
 same-length-2 c = search needs
 
 returns : tie.Need-returns
-returns c = c .before .before .before .before .draw-tables .ensures
+returns c = ?
 
 pub draw-accepted-spec : {M : Type 1} → statement M
 draw-accepted-spec =
@@ -91,13 +100,25 @@ draw-accepted-spec =
     slice-aggregate-fill-tables-5
     slice-aggregate-fill-tables-6
     fill-tables-requires
-    slice-aggregate-draw-tables
-    slice-aggregate-draw-tables-2
-    slice-aggregate-draw-tables-3
-    slice-aggregate-draw-tables-4
-    slice-aggregate-draw-tables-5
-    slice-aggregate-draw-tables-6
-    draw-tables-requires
+    slice-aggregate-fill
+    fill-requires
+    slice-aggregate-fill-2
+    slice-aggregate-fill-3
+    slice-aggregate-fill-4
+    slice-aggregate-fill-5
+    slice-aggregate-fill-6
+    fill-requires-2
+    mul-write
+    slice-aggregate-draw-triangles
+    slice-aggregate-draw-triangles-2
+    slice-aggregate-draw-triangles-3
+    draw-triangles-requires
+    shortage-requires
+    slice-aggregate-write-points
+    slice-aggregate-write-points-2
+    slice-aggregate-write-points-3
+    write-points-requires
+    result-requires
     same-length
     same-length-2
     returns)

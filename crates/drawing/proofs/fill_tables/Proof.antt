@@ -26,11 +26,11 @@ number-slots-requires c κs =
     let room = s .pre .1 .1 .1 in
     (s .pre .0, (c .before .before .before .before .before .before .before .before .before .before .before .before .before .before .before .before .fill-wets .ensures, (level .low, (level .ends, (room .1, room .2)))))
 
-slice-aggregate-fill-twins : tie.Need-slice-aggregate-fill-twins
-slice-aggregate-fill-twins c = search needs
+slice-aggregate-fill : tie.Need-slice-aggregate-fill
+slice-aggregate-fill c = search needs
 
-fill-twins-requires : tie.Need-fill-twins-requires
-fill-twins-requires c κs =
+fill-requires : tie.Need-fill-requires
+fill-requires c κs =
     let s = c .before .before .before .before .before .before .before .before .before .before .before .before .before .before .before .before .before .before .before .before .before .before .before .before .before .before .before .before .before .before .before .before .before .before .before .before .before .before .before .before in
     let level = c .before .before .before .before .before .before .before .before .before .before .before .before .before .before .before .before .before .before .before .before .before .before .fill-levels .ensures in
     let number = c .before .before .before .before .before .before .before .before .before .before .before .number-slots .ensures in (
@@ -69,7 +69,7 @@ returns c =
       end = level .ends;
       number = number .1 .0;
       slot = number .1 .1;
-      twin = c .before .before .fill-twins .ensures;
+      twin = c .before .before .fill .ensures;
       count = number .0;
     }
 
@@ -81,8 +81,8 @@ fill-tables-spec =
     slice-aggregate-fill-levels
     fill-levels-requires
     number-slots-requires
-    slice-aggregate-fill-twins
-    fill-twins-requires
+    slice-aggregate-fill
+    fill-requires
     same-length
     same-length-2
     same-length-3

@@ -3,18 +3,17 @@
 -- at hand are recorded.
 use denote.Ref.{now}
 use Prim.Native.Nat.{ℕ, _+_, _-_, _<_}
-use mathlib.Core.Path.{_≡_, refl, sym, ap, _∙_, subst}
+use mathlib.Core.Path.{_≡_, sym, ap, _∙_, subst}
 use mathlib.Core.List.{List}
 use native.Mathlib.Omega.{arith}
-use lib.ListN.{length, getD}
+use lib.ListN.{length}
 use Rattle.base.specs.Lists.{collect}
-use Rattle.base.proofs.Lists.{in-get}
 use Rattle.rules.specs.Survey.{entry}
 use Rattle.rules.specs.Steps.{Step}
 use Rattle.trace.specs.Trace.{recorded}
 use Rattle.trace.proofs.Laws.{length-recorded}
 use Rattle.faces.specs.Faces.{rowCorner, rowSteps, quarters, smallTableSteps, Fits}
-use Rattle.faces.proofs.Small.{quarter-few, small-leaf, small-parts, part-inside}
+use Rattle.faces.proofs.Small.{small-leaf, small-parts, part-inside}
 use Rattle.faces.proofs.Recording.{Recording, begun, next-fits, recorded-next, recorded-all}
 use borrow.Author.Needs.{needs}
 use borrow.Fn.Kinds.{In}
@@ -22,6 +21,7 @@ use borrow.Fn.PlainCycle.{Measures, is, falls, and}
 use Rattle.records.proofs.cell_entry.Reads as cell-entry
 use Rattle.faces.proofs.row_corner.Reads as row-corner
 use Rattle.faces.proofs.row_steps.Reads as row-steps
+use Rattle.faces.proofs.quarter.Reads as quarter
 use Rattle.faces.proofs.small_steps.Reads as small-steps
 use Rattle.faces.proofs.small_steps.Kinds as kinds
 use Rattle.faces.proofs.+small_steps.Lts-small_steps as lts
@@ -41,6 +41,8 @@ claims t = (
   cell-entry.Learnt,
   row-steps.Asked,
   row-steps.Learnt,
+  quarter.Asked,
+  quarter.Learnt,
   row-corner.Asked,
   row-corner.Learnt,
   and 3 kinds.ps (falls 3 kinds.ps _<_ μ-small-steps t) small-steps.Pre,
@@ -118,24 +120,11 @@ module _ (t : ℕ) where
   loop-holds : lts.Need-loop-holds (claims t) (at t) small-steps.Post Inv-loop μ-loop
   loop-holds c = begun (steps c) quarters _
 
-  mul-row-corner : lts.Need-mul-row-corner (claims t) (at t) small-steps.Post Inv-loop μ-loop
-  mul-row-corner c = search needs
-
-  array-read-row-corner : lts.Need-array-read-row-corner (claims t) (at t) small-steps.Post Inv-loop μ-loop
-  array-read-row-corner c = search needs
-
-  -- the corner at the quarter at hand
-  abbrev Turn : Type 0
-  Turn = lts.In-loop (claims t) (at t) small-steps.Post Inv-loop μ-loop
-
-  abbrev corner : Turn → ℕ
-  corner c = getD quarters (c .before .loop .i) 0
-
-  corner-few : (c : Turn) → corner c < 4
-  corner-few c = quarter-few (corner c) (in-get quarters (c .before .loop .i) 0 (c .loop-test .taken))
+  quarter-requires : lts.Need-quarter-requires (claims t) (at t) small-steps.Post Inv-loop μ-loop
+  quarter-requires c κs = omega (arith, c .loop-test .taken)
 
   row-corner-requires : lts.Need-row-corner-requires (claims t) (at t) small-steps.Post Inv-loop μ-loop
-  row-corner-requires c κs = (start (c .before .before .before) .pre .1 .1 .0 .0, corner-few c)
+  row-corner-requires c κs = (start (c .before .before .before .before) .pre .1 .1 .0 .0, c .quarter .ensures .1)
 
   add-child : lts.Need-add-child (claims t) (at t) small-steps.Post Inv-loop μ-loop
   add-child c = search needs
@@ -143,15 +132,15 @@ module _ (t : ℕ) where
   small-steps-requires : lts.Need-small-steps-requires (claims t) (at t) small-steps.Post Inv-loop μ-loop
   small-steps-requires c κs =
       let q = c .before in
-      let n = q .before in
-      let l = n .before in
+      let j = q .before in
+      let l = j .before .before in
       let split = l .before in
       let e = split .before in
       let s = start e in
       let a = s .args in
       let k = q .row-corner in
       let (up, inside) = part-inside (now (a .cells)) (now (a .crossings)) (s .pre .1 .0 .entries-right) (a .row) (a .m) (s .pre .1 .1 .0 .1)
-      (e .cell-entry .result) (e .cell-entry .ensures) (split .if1 .left) (corner n) (k .result) (corner-few n) (k .ensures .0) in (
+      (e .cell-entry .result) (e .cell-entry .ensures) (split .if1 .left) (j .quarter .result) (k .result) (j .quarter .ensures .1) (k .ensures .0) in (
         omega (arith, up, inside, s .pre .0),
         (
           s .pre .1 .0,
@@ -159,7 +148,8 @@ module _ (t : ℕ) where
             (s .pre .1 .1 .0 .0, inside),
             subst (λ k. Fits (smallTableSteps (now (a .cells)) (now (a .crossings)) (a .row) (e .cell-entry .result + k)) (length (l .loop .trace)))
                 (sym (k .ensures .0))
-                (next-fits (steps split) quarters (l .loop .i) _ _ (l .loop .inv) (n .loop-test .taken) (corner n) refl
+                (next-fits (steps split) quarters (l .loop .i) _ _ (l .loop .inv) (omega (arith, j .before .loop-test .taken)) (j .quarter .result)
+                (j .quarter .ensures .0)
                 (subst (λ ss. Fits ss (length (now (a .trace)))) (sym (all-steps split)) (s .pre .1 .1 .1))),
           ),
         ),
@@ -175,12 +165,13 @@ module _ (t : ℕ) where
   loop-again c =
       let r = c .before .before in
       let q = r .before .before in
-      let n = q .before in
-      let l = n .before in
+      let j = q .before in
+      let l = j .before .before in
       let split = l .before in
       let e = split .before in
       let a = start e .args in
-      recorded-next (steps split) quarters (l .loop .i) _ _ (l .loop .inv) (n .loop-test .taken) (corner n) refl _
+      recorded-next (steps split) quarters (l .loop .i) _ _ (l .loop .inv) (omega (arith, j .before .loop-test .taken)) (j .quarter .result)
+      (j .quarter .ensures .0) _
       (r .small-steps .ensures
       ∙ ap (λ k. recorded (smallTableSteps (now (a .cells)) (now (a .crossings)) (a .row) (e .cell-entry .result + k)) (l .loop .trace))
       (q .row-corner .ensures .0))
@@ -203,8 +194,7 @@ pub +small-steps-spec : {M : Type 1} → statement M
     (same-length t)
     (returns t)
     (loop-holds t)
-    (mul-row-corner t)
-    (array-read-row-corner t)
+    (quarter-requires t)
     (row-corner-requires t)
     (add-child t)
     (small-steps-requires t)

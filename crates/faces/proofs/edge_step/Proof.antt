@@ -1,7 +1,7 @@
 -- `faces::edge_step` meets its contract: the table of sixteen says where the step goes, if there is one.
 use denote.Ref.{now}
 use Prim.Native.Nat.{ℕ, _+_, _*_}
-use mathlib.Core.Path.{_≡_, ap, _∙_}
+use mathlib.Core.Path.{ap, _∙_}
 use lib.ListN.{length, getD}
 use borrow.Author.Needs.{needs}
 use Rattle.trace.specs.Trace.{recorded}
@@ -72,14 +72,6 @@ record-step-requires c κs =
     (ap (point s) (from .row-edge .ensures .0)) (ap (point s) (to .row-edge2 .ensures .0)) (length (now (a .trace))) (s .pre .1 .1) in
     search needs
 
-same-length : tie.Need-same-length
-same-length c =
-    let r = c .before .before in
-    let to = r .before .before .before in
-    let from = to .before .before in
-    let s = start (from .before .before) in
-    ap length (r .record-step .ensures) ∙ length-one (point s (from .row-edge .result), point s (to .row-edge2 .result)) (now (s .args .trace))
-
 returns-2 : tie.Need-returns-2
 returns-2 c =
     let r = c .before .before in
@@ -93,6 +85,14 @@ returns-2 c =
     (one-enters (now (a .crossings)) (a .row) (a .m) (a .pattern) (a .j) (w .wide .result) (w .wide .ensures ∙ w .before .step-from .ensures)
     (point s (from .row-edge .result)) (point s (to .row-edge2 .result)) (from .before .if1 .left)
     (ap (point s) (from .row-edge .ensures .0)) (ap (point s) (to .row-edge2 .ensures .0)))
+
+same-length : tie.Need-same-length
+same-length c =
+    let r = c .before .before in
+    let to = r .before .before .before in
+    let from = to .before .before in
+    let s = start (from .before .before) in
+    ap length (r .record-step .ensures) ∙ length-one (point s (from .row-edge .result), point s (to .row-edge2 .result)) (now (s .args .trace))
 
 pub edge-step-spec : {M : Type 1} → statement M
 edge-step-spec =

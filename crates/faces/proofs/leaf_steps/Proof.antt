@@ -1,7 +1,7 @@
 -- `faces::leaf_steps` meets its contract. The loop's invariant: the steps on the sides before the one at hand are recorded. The measure is how many sides
 -- are to come.
 use denote.Ref.{now}
-use Prim.Native.Nat.{ℕ, _-_}
+use Prim.Native.Nat.{ℕ, _-_, _<_}
 use mathlib.Core.Path.{_≡_, sym, ap, _∙_, subst}
 use mathlib.Core.List.{List}
 use native.Mathlib.Omega.{arith}
@@ -39,7 +39,7 @@ side-steps-requires c κs =
     let l = c .before .before in
     let s = start l in
     let i = l .loop .i in
-    let more = c .before .loop-test .taken in (
+    let more : i < 6 = omega (arith, c .before .loop-test .taken) in (
       s .pre .0,
       (
         s .pre .1 .0,
@@ -62,7 +62,7 @@ loop-again c =
     let e = c .before .before in
     let l = e .before .before .before in
     let i = l .loop .i in
-    let more = e .before .before .loop-test .taken in
+    let more : i < 6 = omega (arith, e .before .before .loop-test .taken) in
     recorded-next (steps l) (count 0 6) i _ _ (l .loop .inv) more i (count-at 6 i more) _ (e .side-steps .ensures)
 
 same-length : tie.Need-same-length Inv-loop μ-loop

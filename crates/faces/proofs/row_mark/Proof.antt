@@ -1,9 +1,5 @@
 -- `faces::row_mark` meets its contract: the digit of the mask at the corner's number.
-use Prim.Native.Nat.{ℕ, _/_, _%_, _^_, _≤_}
-use mathlib.Core.Path.{_≡_, _∙_, ap}
-use native.Mathlib.Omega.{arith}
 use borrow.Author.Needs.{needs}
-use Rattle.faces.specs.Faces.{rowCorner}
 use Rattle.faces.proofs.Steps.{digit-bit}
 use Rattle.faces.proofs.row_mark.Statement.{statement}
 use Rattle.faces.proofs.row_mark.Tie as tie

@@ -1,7 +1,7 @@
 -- `faces::row_steps` meets its contract. The loop's invariant: the steps that enter by the edges before the one at hand are recorded. The measure is how
 -- many edges are to come.
 use denote.Ref.{now}
-use Prim.Native.Nat.{ℕ, _-_}
+use Prim.Native.Nat.{ℕ, _-_, _<_}
 use mathlib.Core.Path.{_≡_, sym, ap, _∙_, subst}
 use mathlib.Core.List.{List}
 use native.Mathlib.Omega.{arith}
@@ -42,7 +42,7 @@ edge-step-requires c κs =
     let l = c .before .before in
     let s = start l in
     let j = l .loop .j in
-    let more = c .before .loop-test .taken in (
+    let more : j < 4 = omega (arith, c .before .loop-test .taken) in (
       s .pre .0,
       (
         (l .before .row-pattern .ensures .1, more),
@@ -62,7 +62,7 @@ loop-again c =
     let e = c .before .before in
     let l = e .before .before .before in
     let j = l .loop .j in
-    let more = e .before .before .loop-test .taken in
+    let more : j < 4 = omega (arith, e .before .before .loop-test .taken) in
     recorded-next (steps l) (count 0 4) j _ _ (l .loop .inv) more j (count-at 4 j more) _ (e .edge-step .ensures)
 
 same-length : tie.Need-same-length Inv-loop μ-loop

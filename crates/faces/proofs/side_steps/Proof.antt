@@ -1,6 +1,6 @@
 -- `faces::side_steps` meets its contract: the table of cells across tells the own side from the split cell across.
 use denote.Ref.{now}
-use Prim.Native.Nat.{ℕ, _+_}
+use Prim.Native.Nat.{_+_}
 use mathlib.Core.Path.{_≡_, sym, ap, _∙_, subst}
 use native.Mathlib.Omega.{arith}
 use lib.ListN.{length}
