@@ -38,6 +38,9 @@ module _ (tc tk : List ℕ) (clearance : Float) (ok : accepted tc tk clearance �
   pub few-corners : length tk ≤ 48720
   few-corners = corners-few tc tk unrefused
 
+  pub few-cells : length tc ≤ 8196
+  few-cells = cells-few tc tk unrefused
+
   pub few-records : length tc / 4 ≤ 2049
   few-records = let h = cells-few tc tk unrefused in omega arith
 

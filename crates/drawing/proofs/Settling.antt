@@ -6,21 +6,28 @@
 use Prim.Native.Nat.{ℕ, zero, suc, _+_, _*_, _≤_, _<_}
 use native.Mathlib.Omega.{arith}
 use mathlib.Core.Path.{_≡_, refl, sym, ap, _∙_, subst}
+use mathlib.Core.Logic.{_⊎_, inl, inr}
 use mathlib.Core.Bool.{Bool, true, false, not, _&&_, cond}
 use mathlib.Core.List.{List, [], _∷_, _++_}
-use lib.Dec.{leb}
+use lib.Dec.{T, leb, ltb, leb→le}
 use lib.ListN.{length, getD, set, take, drop, replicate, length-set, length-replicate}
+use lib.Ieee.{Float}
 use lib.Seq.{take-append-seam, take-all}
 use borrow.Author.Tests.{le-leb, lt-leb}
 use Rattle.base.specs.Lists.{collect}
-use Rattle.rules.specs.Steps.{Triangle}
+use Rattle.base.proofs.Tests.{either, and→}
+use Rattle.rules.specs.Steps.{Triangle, allTriangles}
 use Rattle.rules.specs.Edges.{pointEdges}
-use Rattle.rules.specs.Outputs.{surveyOf, numbers, written}
+use Rattle.rules.specs.Outputs.{firstOf, accepted, surveyOf, numbers, triangleNumbers, written}
 use Rattle.trace.specs.Trace.{Traced}
 use Rattle.trace.proofs.Laws.{fresh}
 use Rattle.loops.proofs.Slices.{into-all, length-numbers}
 use Rattle.leaves.specs.Leaves.{Ready, Drew}
-use Rattle.drawing.specs.Passes.{Known, Settled}
+use Rattle.across.specs.Across.{Beyond}
+use Rattle.crossings.specs.Crossings.{Crossings}
+use Rattle.drawing.specs.Passes.{Filled, Known, Settled}
+use Rattle.drawing.proofs.Slices.{none-short}
+use Rattle.drawing.proofs.Drawn.{both-fit}
 
 unmarked : (b : Bool) → not b ≡ true → b ≡ false
 unmarked true e = sym e
@@ -95,3 +102,48 @@ ready tc across crossings twins trace n k limit reach empty = record {
   reach = reach;
   empty = empty;
 }
+
+-- ---- slices that are too short
+
+-- of slices with a and b elements, of which n and m are wanted: what is written, by the number of the check that applies
+module _ (a b n m number : ℕ) (is : number ≡ firstOf ((9, ltb a n) ∷ (10, ltb b m) ∷ [])) where
+  pub not-written : (number ≡ 0 → ⊥) → leb n a && leb m b ≡ false
+  not-written some = go (either (leb n a && leb m b))
+    where
+      go : T (leb n a && leb m b) ⊎ (leb n a && leb m b ≡ false) → leb n a && leb m b ≡ false
+      go (inl t) =
+          let both = and→ (leb n a) (leb m b) t in
+          absurd (some (is ∙ sym (none-short a n b m (leb→le n a (both .0)) (leb→le m b (both .1)))))
+      go (inr e) = e
+
+  pub is-written : number ≡ 0 → leb n a && leb m b ≡ true
+  is-written none =
+      let both = both-fit a b n m (sym is ∙ none) in
+      (λ i. le-leb n a (both .0) i && le-leb m b (both .1) i)
+
+-- ---- from the tables of a survey to its triangles in the slice
+
+-- the tables that the leaves are drawn from
+abbrev pub known : (tc tk : List ℕ) (clearance : Float) {across crossings wets lowest far numbers slots twins : List ℕ} {n : ℕ}
+    → accepted tc tk clearance ≡ true → Beyond tc across → Crossings (surveyOf tc tk clearance) tc crossings
+    → Filled tc tk clearance wets lowest far numbers slots twins n → Known tc across crossings twins n
+known tc tk clearance ok beyond crossed f = record {
+  corners = tk;
+  clearance = clearance;
+  passed = ok;
+  beyond = beyond;
+  crossed = crossed;
+  twin = f .twin;
+  count = f .count;
+}
+
+pub left-alone : {ts : List Triangle} {write : Bool} {before after : List ℕ} {r : ℕ} → Settled ts write before after r
+    → write && leb (3 * r) (length before) ≡ false → after ≡ before
+left-alone {ts} {before = before} d e = d .wrote ∙ ap (λ (b : Bool). cond b (written (collect numbers ts) before) before) e
+
+pub written-over : (tc tk : List ℕ) (clearance : Float) {write : Bool} {before after : List ℕ} {r : ℕ}
+    → Settled (allTriangles (surveyOf tc tk clearance)) write before after r → write && leb (3 * r) (length before) ≡ true
+    → after ≡ written (triangleNumbers tc tk clearance) before
+unfolding triangleNumbers
+written-over tc tk clearance {before = before} d e =
+    d .wrote ∙ ap (λ (b : Bool). cond b (written (collect numbers (allTriangles (surveyOf tc tk clearance))) before) before) e

@@ -255,13 +255,15 @@ fn draw_accepted(
         levels,
         &mut crossings,
     );
+    let room = triangles.len();
     let write = 3 * n <= points.len();
     let m = draw_triangles(cells, &across, &crossings, &twins, n, write, triangles);
-    let number = shortage(points.len(), triangles.len(), n, m);
-    if number == 0 {
-        edges::write_points(cells, corners, clearance, &lowest, &far, &slots, n, points);
+    let number = shortage(points.len(), room, n, m);
+    if number != 0 {
+        return result(number, n, m);
     }
-    result(number, n, m)
+    edges::write_points(cells, corners, clearance, &lowest, &far, &slots, n, points);
+    result(0, n, m)
 }
 
 // Draws the surface of a survey at a clearance: document 01, "Outputs and refusals". For every input, the result and both slices are those of the

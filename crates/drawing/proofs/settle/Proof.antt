@@ -78,8 +78,8 @@ returns-4 c =
     let s = c .before .before .before .before .before .before .before .before .before .before .before .before .before .before .before .before .before .before .before .before .before .before .before .before in
     let a = s .args in
     λ d. let first = c .before .before .before .before .before .before .before .before .before .before .before .before .before .before .draw-leaves .ensures d in
-        let again = c .before .before .before .before .draw-leaves2 .ensures (still (a .cells .now) (a .across .now) (a .crossings .now) (a .twins .now) (a .trace .now) _ d (first .emptied)) in
-        redrawn (d .limit) _ _ _ _ _ again (a .write) (c .before .before .before .before .before .before .before .before .before .if1 .left) (omega (arith, c .before .before .before .before .before .before .before .before .if2 .left, first .counted, again .counted))
+    let again = c .before .before .before .before .draw-leaves2 .ensures (still (a .cells .now) (a .across .now) (a .crossings .now) (a .twins .now) (a .trace .now) _ d (first .emptied)) in
+    redrawn (d .limit) _ _ _ _ _ again (a .write) (c .before .before .before .before .before .before .before .before .before .if1 .left) (omega (arith, c .before .before .before .before .before .before .before .before .if2 .left, first .counted, again .counted))
 
 pub settle-spec : {M : Type 1} → statement M
 settle-spec =
