@@ -2,20 +2,22 @@
 --     small-faces       on each side of a leaf of a lawful survey, the rules list each face that the sentence names once, and no other
 --     faces-named       so a face is listed where the sentence names it
 --     accepted-faces    the same of all tables that are accepted
+-- The sentence is worked out on one leaf first, so that a wrong sentence shows.
 -- Assumes nothing.
 use Prim.Native.Nat.{ℕ, _+_, _-_, _*_, _^_, _≤_}
 use native.Mathlib.Omega.{arith}
 use mathlib.Core.Path.{_≡_, refl, sym, _∙_, ap, subst, fun-ext}
 use mathlib.Core.Logic.{_⊎_, inl, inr}
 use mathlib.Core.Bool.{Bool, true, false, not, _&&_, cond}
-use mathlib.Core.List.{List}
+use mathlib.Core.List.{List, [], _∷_, _++_}
 use lib.Dec.{T, eqb, eqb→eq, leb, leb→le, le→leb}
 use lib.Ieee.{Float}
-use Rattle.base.specs.Lists.{any, sum, bit}
+use Rattle.base.specs.Lists.{any, keep, sum, bit}
 use Rattle.base.specs.Grid.{Place, Axis, X, Y, Z, next, along, put, move, back, same}
 use Rattle.rules.specs.Survey.{Cell, cell, size, cellsOf, Survey}
-use Rattle.rules.specs.Steps.{Side, sides, sideLow, Face, face, splitAcross, smallFaces}
+use Rattle.rules.specs.Steps.{Side, upperSide, lowerSide, sides, sideLow, Face, face, splitAcross, smallFaces}
 use Rattle.rules.specs.Outputs.{accepted, surveyOf}
+use Rattle.rules.proofs.Surveys.{cellTable, leaves}
 use Rattle.base.proofs.Tests.{and→, →and, →true, either, tests-equal, bit-true, bit-le}
 use Rattle.base.proofs.Lists.{In, any→in, in→any}
 use Rattle.base.proofs.Sums.{sum-zero, sum-same, sum-le, in-sum, times}
@@ -27,6 +29,37 @@ use Rattle.geometry.specs.SmallFaces.{sameFace, sideOf, opposite, isAcro
 use Rattle.geometry.proofs.Grid.{place, half, along-across, along-first, along-second, place-of}
 use Rattle.geometry.proofs.Nested.{bit-no, axes→, →axes, inside→}
 use Rattle.geometry.proofs.Touching.{sideBy, nearAt, own-low, near-low, fits, fits→, →fits, part, small-own, small-near}
+
+-- ---- the sentence on one leaf
+
+-- Record 2 of the twin survey, in the upper half of x. Across its lower side on x is record 1, which is split into leaves; across its upper side on y
+-- is a leaf; its upper side on x lies on the box's outside.
+abbrev twinCells : List Cell
+unfolding cellsOf
+twinCells = cellsOf (cellTable (1 ∷ 9 ∷ leaves 15))
+
+abbrev twinLeaf : Cell
+twinLeaf = cell (place X 512 0 0) 9 false
+
+-- the sides of the four leaves in record 1 that touch the leaf
+abbrev touching : List Face
+touching = face (place X 512 0 0) 8 ∷ face (place X 512 256 0) 8 ∷ face (place X 512 0 256) 8 ∷ face (place X 512 256 256) 8 ∷ []
+
+-- those, and a side of a leaf in record 1 that does not touch, a side of record 1, a side of record 3, and the leaf's upper side on x
+abbrev candidates : List Face
+candidates = touching ++ (face (place X 256 0 0) 8 ∷ face (place X 512 0 0) 9 ∷ face (place X 512 512 0) 9 ∷ face (place X 1024 0 0) 9 ∷ [])
+
+split-across : keep (isSmallFace twinCells (lowerSide X) twinLeaf) candidates ≡ touching
+unfolding isSmallFace cellsOf
+split-across = refl
+
+leaf-across : keep (isSmallFace twinCells (upperSide Y) twinLeaf) candidates ≡ face (place X 512 512 0) 9 ∷ []
+unfolding isSmallFace cellsOf
+leaf-across = refl
+
+outside : keep (isSmallFace twinCells (upperSide X) twinLeaf) candidates ≡ face (place X 1024 0 0) 9 ∷ []
+unfolding isSmallFace cellsOf
+outside = refl
 
 -- ---- tests and counts
 

@@ -1,5 +1,6 @@
 //! Times the proved calls against the Rust drawing, on surveys of several kinds and sizes, and prints two tables:
-//! the time of each call, and how the time of a leaf grows with the survey.
+//! the time of each call, and how the time of a leaf grows with the survey; then the highest ratio of each call,
+//! and how the proved drawing of each kind grows. The exit status is 1 if one grows too fast.
 //!
 //!     cargo run --release -p bench [ROUNDS]
 //!
@@ -9,6 +10,7 @@
 //!     cargo run --release -p bench -- repeat random 256 draw proved 1000
 
 mod calls;
+mod growth;
 mod repeat;
 mod subject;
 mod table;
@@ -16,35 +18,47 @@ mod timing;
 mod ways;
 
 use std::error::Error;
+use std::process::ExitCode;
 
 use calls::Call;
+use growth::Growth;
 use subject::Subject;
 use surveys::sized::Kind;
 use table::Row;
 
+/// The numbers of splits of large surveys, between which growth is judged.
+const LARGE: [usize; 2] = [64, 256];
+
 /// The numbers of splits to time.
-const SIZES: [usize; 4] = [1, 8, 64, 256];
+const SIZES: [usize; 4] = [1, 8, LARGE[0], LARGE[1]];
 
 /// The seed of all surveys, so that every run times the same ones.
 const SEED: u64 = 1;
 
-fn main() -> Result<(), Box<dyn Error>> {
+fn main() -> Result<ExitCode, Box<dyn Error>> {
     let arguments: Vec<String> = std::env::args().skip(1).collect();
     match arguments.first().map(String::as_str) {
-        None => time_all(101),
-        Some("repeat") => repeat::repeat(&arguments[1..])?,
-        Some(rounds) => time_all(rounds.parse()?),
+        None => Ok(time_all(101)),
+        Some("repeat") => repeat::repeat(&arguments[1..]).map(|()| ExitCode::SUCCESS),
+        Some(rounds) => Ok(time_all(rounds.parse()?)),
     }
-    Ok(())
 }
 
-/// Times every kind and size and prints what was seen.
-fn time_all(rounds: usize) {
+/// Times every kind and size, prints what was seen, and judges it.
+fn time_all(rounds: usize) -> ExitCode {
     let sized = |kind| SIZES.map(|splits| row(kind, splits, rounds));
     let rows: Vec<Row> = Kind::ALL.into_iter().flat_map(sized).collect();
     table::print_times(&rows);
     table::print_growth(&rows, SIZES.len());
-    table::print_worst(&rows);
+    table::print_worst(&rows, &SIZES);
+    let growths = Kind::ALL.map(|kind| Growth::timed(kind, rounds));
+    table::print_drawing_growth(&growths);
+    ExitCode::from(u8::from(growths.iter().any(Growth::is_too_fast)))
+}
+
+/// How many leaves a survey of so many splits has.
+fn leaves(splits: usize) -> usize {
+    1 + 7 * splits
 }
 
 fn row(kind: Kind, splits: usize, rounds: usize) -> Row {
@@ -54,7 +68,7 @@ fn row(kind: Kind, splits: usize, rounds: usize) -> Row {
     Row {
         kind,
         splits,
-        leaves: 1 + 7 * splits,
+        leaves: leaves(splits),
         points: subject.points(),
         triangles: subject.triangles(),
         times,

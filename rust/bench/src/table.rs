@@ -3,7 +3,9 @@
 use surveys::sized::Kind;
 
 use crate::calls::Call;
+use crate::growth::Growth;
 use crate::timing::Timing;
+use crate::{growth, LARGE};
 
 /// What was seen of one survey.
 pub struct Row {
@@ -61,13 +63,32 @@ fn print_leaf_times(of_kind: &[Row], call: Call, way: &str, time: impl Fn(&Timin
     println!();
 }
 
-/// The highest ratio of each call over all rows.
-pub fn print_worst(rows: &[Row]) {
+/// The highest ratio of each call, on large surveys and on those of all sizes.
+pub fn print_worst(rows: &[Row], sizes: &[usize]) {
     println!();
     for call in Call::ALL {
-        let ratios = rows.iter().map(|row| row.times[call as usize].ratio);
-        let worst = ratios.fold(0.0, f64::max);
-        println!("{}: proved / Rust is at most {worst:.2}", call_name(call));
+        let [large, all] = [&LARGE, sizes].map(|sizes| worst_ratio(rows, call, sizes));
+        let [smaller, larger] = LARGE;
+        print!("{}: proved / Rust is at most {large:.2} at {smaller} and {larger} splits", call_name(call));
+        println!(", and {all:.2} at all sizes");
+    }
+}
+
+/// The highest ratio of a call over the rows of these sizes.
+fn worst_ratio(rows: &[Row], call: Call, sizes: &[usize]) -> f64 {
+    let of_sizes = rows.iter().filter(|row| sizes.contains(&row.splits));
+    of_sizes.map(|row| row.times[call as usize].ratio).fold(0.0, f64::max)
+}
+
+/// How the proved drawing of each kind grows, and which grows too fast.
+pub fn print_drawing_growth(growths: &[Growth]) {
+    let [smaller, larger] = LARGE;
+    println!("\ntime of a leaf's proved drawing at {larger} splits, by that at {smaller}, in turns\n");
+    for Growth { kind, growth } in growths {
+        println!("{:9} {growth:6.2}", kind_name(*kind));
+    }
+    for failed in growths.iter().filter(|growth| growth.is_too_fast()) {
+        println!("FAILED: {} grows by more than {} times", kind_name(failed.kind), growth::MOST);
     }
 }
 
@@ -88,5 +109,31 @@ pub fn call_name(call: Call) -> &'static str {
         Call::Check => "check",
         Call::Enquire => "enquire",
         Call::Draw => "draw",
+    }
+}
+
+#[cfg(test)]
+mod tests {
+    use super::*;
+
+    /// A row in which every call has the ratio.
+    fn row(kind: Kind, splits: usize, ratio: f64) -> Row {
+        let timing = Timing { proved: ratio, rust: 1.0, ratio };
+        Row { kind, splits, leaves: 1, points: 0, triangles: 0, times: [timing; 3] }
+    }
+
+    #[test]
+    fn the_worst_ratio_is_that_of_the_sizes_asked_for() {
+        let rows = [
+            row(Kind::Ball, 1, 2.5),
+            row(Kind::Ball, 64, 1.25),
+            row(Kind::Plane, 1, 2.0),
+            row(Kind::Plane, 256, 1.5),
+        ];
+        for call in Call::ALL {
+            assert_eq!(worst_ratio(&rows, call, &[64]), 1.25);
+            assert_eq!(worst_ratio(&rows, call, &[64, 256]), 1.5);
+            assert_eq!(worst_ratio(&rows, call, &[1, 64, 256]), 2.5);
+        }
     }
 }

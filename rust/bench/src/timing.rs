@@ -17,15 +17,24 @@ pub struct Timing {
 }
 
 /// Times both ways, in so many rounds.
-pub fn interleaved(rounds: usize, mut proved: impl FnMut(), mut rust: impl FnMut()) -> Timing {
-    let repeats = [repeats(&mut proved), repeats(&mut rust)];
-    let seen: Vec<[f64; 2]> =
-        (0..rounds).map(|_| [mean(repeats[0], &mut proved), mean(repeats[1], &mut rust)]).collect();
+pub fn interleaved(rounds: usize, proved: impl FnMut(), rust: impl FnMut()) -> Timing {
+    let seen = in_turns(rounds, proved, rust);
     Timing {
         proved: median(seen.iter().map(|times| times[0])),
         rust: median(seen.iter().map(|times| times[1])),
-        ratio: median(seen.iter().map(|times| times[0] / times[1])),
+        ratio: ratio(&seen),
     }
+}
+
+/// The times of two ways in each round, in nanoseconds.
+pub fn in_turns(rounds: usize, mut first: impl FnMut(), mut second: impl FnMut()) -> Vec<[f64; 2]> {
+    let repeats = [repeats(&mut first), repeats(&mut second)];
+    (0..rounds).map(|_| [mean(repeats[0], &mut first), mean(repeats[1], &mut second)]).collect()
+}
+
+/// The median over all rounds of the first way by the second.
+pub fn ratio(seen: &[[f64; 2]]) -> f64 {
+    median(seen.iter().map(|times| times[0] / times[1]))
 }
 
 /// How often a way is repeated in a round; the way is warm then.
@@ -50,4 +59,14 @@ fn median(numbers: impl Iterator<Item = f64>) -> f64 {
     let mut numbers: Vec<f64> = numbers.collect();
     numbers.sort_unstable_by(f64::total_cmp);
     numbers[numbers.len() / 2]
+}
+
+#[cfg(test)]
+mod tests {
+    use super::*;
+
+    #[test]
+    fn the_ratio_is_that_of_the_middle_round() {
+        assert_eq!(ratio(&[[6.0, 2.0], [1.0, 4.0], [9.0, 6.0]]), 1.5);
+    }
 }

@@ -182,17 +182,3 @@ fn damaged_surveys_touch_nothing() {
         assert_same(&damage::corrupted(seed), 40, 40, &format!("corrupted, seed {seed}"));
     }
 }
-
-#[test]
-fn a_stack_of_512_kib_is_enough() {
-    let surveys = [generate::long_loop(0), document::full()];
-    let thread = std::thread::Builder::new().stack_size(512 * 1024);
-    let calls = thread.spawn(move || {
-        for Survey { cells, corners, clearance } in &surveys {
-            clearance::check(cells, corners).expect("checked");
-            clearance::enquire(cells, corners, *clearance, 0, [0; 3], 1_024).expect("answered");
-            clearance::draw_to_vec(cells, corners, *clearance).expect("drawn");
-        }
-    });
-    calls.expect("a thread").join().expect("returned");
-}

@@ -1,10 +1,11 @@
 //! The boundary of the compiled calls: slices that are exactly as long as they are said to be, on the heap (for valgrind to watch) or against an
-//! inaccessible page, on lawful and damaged surveys. Each failure names the seed that makes the survey again. `CLEARANCE_BOUNDARY` sets how many
-//! surveys of each kind.
+//! inaccessible page, on lawful and damaged surveys; and no more stack than the header says. Each failure names the seed that makes the survey again.
+//! `CLEARANCE_BOUNDARY` sets how many surveys of each kind.
 
 mod guarded;
 #[path = "../number/mod.rs"]
 mod number;
+mod stack;
 
 use std::ops::{Deref, DerefMut};
 use std::os::unix::process::ExitStatusExt;
@@ -160,6 +161,9 @@ const TRESPASS: &str = "CLEARANCE_TRESPASS";
 
 /// Leaves what was lent. This must end the process by a signal, or the tests above show nothing.
 fn commit(trespass: &str) {
+    if trespass == "use more stack" {
+        return stack::use_more();
+    }
     let survey = document::twin();
     let side = if trespass == "read before" { Side::Before } else { Side::After };
     let length = survey.corners.len();
@@ -185,17 +189,19 @@ fn commit(trespass: &str) {
 fn after_committing(trespass: &str) -> ExitStatus {
     let this_test = std::env::current_exe().expect("this test");
     let mut child = Command::new(this_test);
-    child.args(["--exact", "leaving_a_slice_ends_the_process"]).env(TRESPASS, trespass);
+    child.args(["--exact", "leaving_what_was_lent_ends_the_process"]).env(TRESPASS, trespass);
     child.output().expect("a child process").status
 }
 
 #[test]
-fn leaving_a_slice_ends_the_process() {
+fn leaving_what_was_lent_ends_the_process() {
     if let Ok(trespass) = std::env::var(TRESPASS) {
         return commit(&trespass);
     }
+    const SIGABRT: i32 = 6; // from Rust's own handler, which knows the page below a stack
     const SIGSEGV: i32 = 11;
     for trespass in ["read before", "read after", "write to a table", "lend a byte too many"] {
         assert_eq!(after_committing(trespass).signal(), Some(SIGSEGV), "{trespass}");
     }
+    assert_eq!(after_committing("use more stack").signal(), Some(SIGABRT));
 }

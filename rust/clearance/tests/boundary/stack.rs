@@ -1,0 +1,49 @@
+//! The stack that a call needs: all calls on the largest surveys, in a thread with no more stack than the header says.
+
+use surveys::sized::{self, Kind};
+use surveys::{plain, Survey};
+
+/// The header's promise: a call needs less stack than this, in bytes.
+const STACK: usize = 512 * 1_024;
+
+/// As many splits as a cell table holds.
+const MOST_SPLITS: usize = 256;
+
+/// Runs in a thread with that much stack, below which an inaccessible page lies. The compiled calls touch every page of their stack in order, so one
+/// that needs more meets this page, and the process ends.
+fn on_small_stack(calls: impl FnOnce() + Send + 'static) {
+    let thread = std::thread::Builder::new().stack_size(STACK).spawn(calls);
+    thread.expect("a thread").join().expect("returned");
+}
+
+/// Uses more stack than such a thread has left when it starts.
+pub fn use_more() {
+    on_small_stack(|| _ = std::hint::black_box([1u8; STACK]));
+}
+
+/// Surveys of 256 splits: every kind, with a long loop and cells of depth 10 among them; and of many random ones that with the most triangles.
+fn largest() -> Vec<Survey> {
+    let random = (0..50).map(|seed| sized::survey(Kind::Random, MOST_SPLITS, seed));
+    let most_triangles = random.max_by_key(|Survey { cells, corners, clearance }| {
+        clearance::count(cells, corners, *clearance).expect("counted").triangles
+    });
+    let kinds = Kind::ALL.map(|kind| sized::survey(kind, MOST_SPLITS, 0));
+    kinds.into_iter().chain(most_triangles).collect()
+}
+
+/// Makes every call: the check, enquiries about edges of cells from all over the table, the drawing.
+fn make_calls(Survey { cells, corners, clearance }: &Survey) {
+    clearance::check(cells, corners).expect("checked");
+    for (number, cube) in plain::octree(cells).cubes.iter().enumerate().step_by(20) {
+        let (low, length) = (cube.low.map(u32::from), u32::from(cube.size));
+        clearance::enquire(cells, corners, *clearance, number as u32 % 3, low, length).expect("answered");
+    }
+    clearance::draw_to_vec(cells, corners, *clearance).expect("drawn");
+}
+
+#[test]
+fn the_largest_surveys_on_a_stack_of_512_kib() {
+    let surveys = largest();
+    assert!(surveys.iter().all(|survey| survey.cells.len() == 4 * (1 + 8 * MOST_SPLITS)));
+    on_small_stack(move || surveys.iter().for_each(make_calls));
+}
