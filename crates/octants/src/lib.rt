@@ -11,7 +11,7 @@ ghost use Rattle.octants.specs.Octants.{LookedUp};
 // Looks up the eight corners of cell `n`, by the key of its lowest corner and its level.
 fn fill_cell(
     corners: &[u8],
-    hints: &[u16; 16384],
+    hints: &[u16; 8192],
     n: usize,
     key: u64,
     level: u8,
@@ -38,7 +38,7 @@ fn fill_cell(
 // The corners of the first cells, by their keys and levels.
 fn fill_cells(
     corners: &[u8],
-    hints: &[u16; 16384],
+    hints: &[u16; 8192],
     keys: &[u64],
     levels: &[u8],
     cells: usize,
@@ -65,7 +65,7 @@ pub fn fill(corners: &[u8], keys: &[u64], levels: &[u8], cells: usize, octants: 
     requires { ⌜ ((n : ℕ) → n < cells → (getD (now keys) n 0 ≤ 9223372036854775808) × (getD (now levels) n 0 ≤ 10)) ⌝ }
     ensures { λ _. ⌜ LookedUp (now (corners .entry)) (now (keys .entry)) (now (levels .entry)) (now (octants .exit)) cells ⌝ }
 {
-    let mut hints = [65535u16; 16384];
+    let mut hints = [65535u16; 8192];
     reader::hints::fill(corners, &mut hints);
     fill_cells(corners, &hints, keys, levels, cells, octants);
 }

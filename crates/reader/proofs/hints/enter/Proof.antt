@@ -6,7 +6,7 @@ use Rattle.reader.proofs.hints.enter.Statement.{statement}
 use Rattle.reader.proofs.hints.enter.Tie as tie
 
 abbrev Inv-loop : tie.InvT-loop
-Inv-loop hints₀ key k at₀ left₀ hints at left = at < 16384
+Inv-loop hints₀ key k at₀ left₀ hints at left = at < 8192
 
 abbrev μ-loop : tie.MeasureT-loop
 μ-loop hints₀ key k at₀ left₀ hints at left = left

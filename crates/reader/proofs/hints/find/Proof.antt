@@ -8,7 +8,7 @@ use Rattle.reader.proofs.hints.find.Statement.{statement}
 use Rattle.reader.proofs.hints.find.Tie as tie
 
 abbrev Inv-loop : tie.InvT-loop
-Inv-loop corners hints key count at₀ left₀ at left = at < 16384
+Inv-loop corners hints key count at₀ left₀ at left = at < 8192
 
 abbrev μ-loop : tie.MeasureT-loop
 μ-loop corners hints key count at₀ left₀ at left = left
