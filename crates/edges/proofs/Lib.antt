@@ -2,6 +2,7 @@ pub mod Starts
 pub mod Levels
 pub mod Points
 pub mod Find
+pub mod Entries
 pub mod Notes
 pub mod Surveyed
 pub mod Filled

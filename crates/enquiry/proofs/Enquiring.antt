@@ -1,5 +1,5 @@
 -- The edge enquiry: the level of a length, the answer from the tables, and the order of the refusals.
-use Prim.Native.Nat.{ℕ, suc, _+_, _*_, _^_, _≤_, _<_}
+use Prim.Native.Nat.{ℕ, suc, _+_, _*_, _/_, _%_, _^_, _≤_, _<_}
 use mathlib.Core.Path.{_≡_, refl, sym, ap, _∙_}
 use mathlib.Core.Logic.{_⊎_, inl, inr}
 use mathlib.Core.Bool.{Bool, true, false, not, _&&_, cond}
@@ -14,7 +14,7 @@ use Rattle.base.proofs.Tests.{→true, true→, either, false→, eq→eqb, not
 use Rattle.rules.specs.Survey.{cellsOf, cornersOf, wetAt, entries, Survey}
 use Rattle.rules.specs.Edges.{isEdge, odd, numberOf, carrier, Spot, spotOn}
 use Rattle.rules.specs.Outputs.{firstOf, checks, accepted, surveyOf, entriesRight, levelOf, Enquired, refused, even, crossing, enquiry}
-use Rattle.records.specs.Keys.{keyOf}
+use Rattle.records.specs.Keys.{keyOf, Short}
 use Rattle.cells.specs.Laid.{tooDeep}
 use Rattle.octree.specs.Lawful.{Lawful}
 use Rattle.octree.proofs.Accepted.{checked, lawful, numbered, first-append}
@@ -41,6 +41,17 @@ level-miss size l n e = rw (ne-eqb (2 ^ l) size e)
 pub key-is : (x y z : ℕ) → x + 65536 * y + 4294967296 * z ≡ keyOf (record { x = x; y = y; z = z })
 unfolding keyOf
 key-is x y z = refl
+
+-- the place with a key
+abbrev pub placed : ℕ → Place
+placed key = record { x = key % 65536; y = key / 65536 % 65536; z = key / 4294967296 }
+
+pub placed-short : (key : ℕ) → Short (placed key)
+placed-short key = record { x-fits = omega arith; y-fits = omega arith }
+
+pub placed-key : (key : ℕ) → key ≡ keyOf (placed key)
+unfolding keyOf
+placed-key key = omega arith
 
 -- ---- the answer
 

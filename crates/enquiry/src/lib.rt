@@ -62,6 +62,7 @@ pub fn enquire(
     if z > 1024 {
         return Answer::Refused(11);
     }
+    let key = (x as u64) + 65536 * (y as u64) + 4294967296 * (z as u64);
     answers::enquire_accepted(
         cells,
         corners,
@@ -69,9 +70,7 @@ pub fn enquire(
         &levels,
         &octants,
         axis,
-        x as u16,
-        y as u16,
-        z as u16,
+        key,
         level_of(size),
     )
 }

@@ -4,7 +4,7 @@ ghost use mathlib.Core.Bool.{true};
 ghost use lib.ListN.{length};
 ghost use Rattle.rules.specs.Edges.{pointEdges};
 ghost use Rattle.rules.specs.Outputs.{accepted, surveyOf};
-ghost use Rattle.edges.specs.Tables.{Lowest, Highest, Far, Wets, Numbers, Slots, Twins};
+ghost use Rattle.edges.specs.Tables.{Wets, Numbered, Carriers, Twins};
 
 mod pairs;
 
@@ -14,38 +14,21 @@ pub fn fill(
     corners: &[u8],
     clearance: f32,
     wets: &[u8],
-    lowest: &[u8],
-    highest: &[u8],
-    far: &[u16],
-    numbers: &[u16],
     slots: &[u16],
+    carriers: &[u16],
     n: usize,
     twins: &mut [u16],
 )
     requires { ⌜ accepted (now cells) (now corners) clearance ≡ true ⌝ }
     requires { ⌜ Wets (now corners) clearance (now wets) ⌝ }
-    requires { ⌜ Lowest (now cells) (now corners) (now lowest) ⌝ }
-    requires { ⌜ Highest (now cells) (now corners) (now highest) ⌝ }
-    requires { ⌜ Far (now cells) (now corners) (now far) ⌝ }
-    requires { ⌜ Numbers (surveyOf (now cells) (now corners) clearance) (now numbers) ⌝ }
-    requires { ⌜ Slots (surveyOf (now cells) (now corners) clearance) (now slots) ⌝ }
+    requires { ⌜ Numbered (now cells) (now corners) clearance (now slots) ⌝ }
+    requires { ⌜ Carriers (surveyOf (now cells) (now corners) clearance) (now carriers) ⌝ }
     requires { ⌜ (n ≡ length (pointEdges (surveyOf (now cells) (now corners) clearance))) × (length (now twins) ≡ 14616) ⌝ }
     ensures { λ _. ⌜ Twins (surveyOf (now (cells .entry)) (now (corners .entry)) clearance) (now (twins .exit)) ⌝ }
 {
     let mut v: usize = 0;
     while v < n {
-        twins[v] = pairs::twin_of(
-            cells,
-            corners,
-            clearance,
-            wets,
-            lowest,
-            highest,
-            far,
-            numbers,
-            slots,
-            v,
-        );
+        twins[v] = pairs::twin_of(cells, corners, clearance, wets, slots, carriers, v);
         v += 1;
     }
 }

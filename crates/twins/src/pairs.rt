@@ -1,14 +1,15 @@
 // Twins: the climb from a point to the first even edge above.
 ghost use mathlib.Core.Path.{_≡_};
 ghost use mathlib.Core.Bool.{true};
-ghost use Prim.Native.Nat.{_-_, _*_, _/_, _^_, _≤_, _<_};
+ghost use Prim.Native.Nat.{_+_, _-_, _*_, _/_, _%_, _^_, _≤_, _<_};
+ghost use lib.Dec.{T};
 ghost use lib.ListN.{length};
 ghost use Rattle.base.specs.Grid.{axisOf};
 ghost use Rattle.rules.specs.Steps.{isUpper, twin, numberElse, twinOf};
 ghost use Rattle.rules.specs.Outputs.{accepted, surveyOf};
 ghost use Rattle.records.specs.Keys.{placesOf};
 ghost use Rattle.edges.specs.Searching.{keyUnit};
-ghost use Rattle.edges.specs.Tables.{placeAt, slotsBelow, Lowest, Highest, Far, Wets, Numbers, Slots, OddEdge, UpperEnd};
+ghost use Rattle.edges.specs.Tables.{placeAt, crossedSlot, slotsBelow, lowestAt, Levelled, Numbered, Wets, Carriers, OddEdge, UpperEnd};
 ghost use Rattle.twins.specs.Risen.{Risen};
 
 // The edge is the upper half of the edge above it.
@@ -41,40 +42,27 @@ fn edge_above(
     cells: &[u8],
     corners: &[u8],
     clearance: f32,
-    lowest: &[u8],
-    highest: &[u8],
-    far: &[u16],
+    slots: &[u16],
     axis: u32,
     k: usize,
     end: usize,
     level: u8,
 ) -> Above
     requires { ⌜ accepted (now cells) (now corners) clearance ≡ true ⌝ }
-    requires { ⌜ Lowest (now cells) (now corners) (now lowest) ⌝ }
-    requires { ⌜ Highest (now cells) (now corners) (now highest) ⌝ }
-    requires { ⌜ Far (now cells) (now corners) (now far) ⌝ }
+    requires { ⌜ Levelled (now cells) (now corners) (now slots) ⌝ }
     requires { ⌜ (axis < 3) × OddEdge (now cells) (now corners) clearance (axisOf axis) k level × UpperEnd (now corners) (axisOf axis) k level end ⌝ }
     ensures { λ r. ⌜ Risen (now (cells .entry)) (now (corners .entry)) (axisOf axis) k level (r .start) (r .end) (r .other) ⌝ }
 {
     if is_upper(corners, axis, k, level) {
         let key = step_back(records::key_at(corners, k), axis, level);
-        let start = edges::edge_record(
-            cells,
-            corners,
-            clearance,
-            lowest,
-            highest,
-            axis,
-            key,
-            level + 1,
-        );
+        let start = edges::edge_record(cells, corners, clearance, slots, axis, key, level + 1);
         return Above {
             start: start,
             end: end,
             other: start,
         };
     }
-    if highest[4872 * (axis as usize) + k] < level + 1 {
+    if edges::table::highest(slots, 4872 * (axis as usize) + k) < level + 1 {
         return Above {
             start: corners.len() / 10,
             end: end,
@@ -83,56 +71,36 @@ fn edge_above(
     }
     Above {
         start: k,
-        end: edges::ends::upper_end(cells, corners, lowest, far, axis, end, level),
+        end: edges::ends::upper_end(cells, corners, slots, axis, end, level),
         other: end,
     }
 }
 
-// The twin of point v, which the edge of level `bottom` from record `start` to record `first` carries: up to the first even edge above, and down its
-// other half.
-pub fn climb(
+// The twin of point v, which a slot carries: from the edge there up to the first even edge above, and down its other half.
+fn climb(
     cells: &[u8],
     corners: &[u8],
     clearance: f32,
     wets: &[u8],
-    lowest: &[u8],
-    highest: &[u8],
-    far: &[u16],
-    numbers: &[u16],
-    axis: u32,
-    start: usize,
-    first: usize,
-    bottom: u8,
+    slots: &[u16],
+    slot: usize,
     v: u16,
 ) -> u16
     requires { ⌜ accepted (now cells) (now corners) clearance ≡ true ⌝ }
     requires { ⌜ Wets (now corners) clearance (now wets) ⌝ }
-    requires { ⌜ Lowest (now cells) (now corners) (now lowest) ⌝ }
-    requires { ⌜ Highest (now cells) (now corners) (now highest) ⌝ }
-    requires { ⌜ Far (now cells) (now corners) (now far) ⌝ }
-    requires { ⌜ Numbers (surveyOf (now cells) (now corners) clearance) (now numbers) ⌝ }
-    requires { ⌜ (axis < 3) × OddEdge (now cells) (now corners) clearance (axisOf axis) start bottom
-        × UpperEnd (now corners) (axisOf axis) start bottom first ⌝ }
+    requires { ⌜ Numbered (now cells) (now corners) clearance (now slots) ⌝ }
+    requires { ⌜ (slot < 14616) × T (crossedSlot (surveyOf (now cells) (now corners) clearance) slot) ⌝ }
     ensures { λ r. ⌜ r ≡ numberElse (surveyOf (now (cells .entry)) (now (corners .entry)) clearance) v
-        (twin (surveyOf (now (cells .entry)) (now (corners .entry)) clearance) 10 (axisOf axis) (placeAt (placesOf (now (corners .entry))) start) bottom) ⌝ }
+        (twin (surveyOf (now (cells .entry)) (now (corners .entry)) clearance) 10 (axisOf (slot / 4872))
+        (placeAt (placesOf (now (corners .entry))) (slot % 4872)) (lowestAt (now (slots .entry)) slot)) ⌝ }
 {
     let count = corners.len() / 10;
-    let mut k = start;
-    let mut end = first;
-    let mut level = bottom;
+    let axis = (slot / 4872) as u32;
+    let mut k = slot % 4872;
+    let mut end = edges::table::far(slots, slot) as usize;
+    let mut level = edges::table::lowest(slots, slot);
     loop {
-        let above = edge_above(
-            cells,
-            corners,
-            clearance,
-            lowest,
-            highest,
-            far,
-            axis,
-            k,
-            end,
-            level,
-        );
+        let above = edge_above(cells, corners, clearance, slots, axis, k, end, level);
         k = above.start;
         if k >= count {
             return v;
@@ -144,9 +112,7 @@ pub fn climb(
                 corners,
                 clearance,
                 wets,
-                lowest,
-                far,
-                numbers,
+                slots,
                 axis,
                 above.other,
                 level,
@@ -162,37 +128,24 @@ pub fn twin_of(
     corners: &[u8],
     clearance: f32,
     wets: &[u8],
-    lowest: &[u8],
-    highest: &[u8],
-    far: &[u16],
-    numbers: &[u16],
     slots: &[u16],
+    carriers: &[u16],
     v: usize,
 ) -> u16
     requires { ⌜ accepted (now cells) (now corners) clearance ≡ true ⌝ }
     requires { ⌜ Wets (now corners) clearance (now wets) ⌝ }
-    requires { ⌜ Lowest (now cells) (now corners) (now lowest) ⌝ }
-    requires { ⌜ Highest (now cells) (now corners) (now highest) ⌝ }
-    requires { ⌜ Far (now cells) (now corners) (now far) ⌝ }
-    requires { ⌜ Numbers (surveyOf (now cells) (now corners) clearance) (now numbers) ⌝ }
-    requires { ⌜ Slots (surveyOf (now cells) (now corners) clearance) (now slots) ⌝ }
+    requires { ⌜ Numbered (now cells) (now corners) clearance (now slots) ⌝ }
+    requires { ⌜ Carriers (surveyOf (now cells) (now corners) clearance) (now carriers) ⌝ }
     requires { ⌜ (v < length (slotsBelow (surveyOf (now cells) (now corners) clearance) 14616)) × (v < 14616) ⌝ }
     ensures { λ r. ⌜ r ≡ twinOf (surveyOf (now (cells .entry)) (now (corners .entry)) clearance) v ⌝ }
 {
-    let slot = slots[v] as usize;
     climb(
         cells,
         corners,
         clearance,
         wets,
-        lowest,
-        highest,
-        far,
-        numbers,
-        (slot / 4872) as u32,
-        slot % 4872,
-        far[slot] as usize,
-        lowest[slot],
+        slots,
+        carriers[v] as usize,
         v as u16,
     )
 }

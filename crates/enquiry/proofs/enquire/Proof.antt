@@ -1,6 +1,6 @@
 -- `enquiry::enquire` meets its contract: the refusals in their order; no edge starts outside the box; then the answer from the tables. And the answer's
 -- place stays on the edge, as the rules' does.
-use Rattle.enquiry.proofs.Enquiring.{far-off, enquiry-refused, is-accepted, axis-refused, edge-refused, enquiry-answer}
+use Rattle.enquiry.proofs.Enquiring.{key-is, far-off, enquiry-refused, is-accepted, axis-refused, edge-refused, enquiry-answer}
 use Rattle.enquiry.proofs.Staying.{both}
 use Rattle.edges.proofs.Surveyed.{cells-few}
 use Rattle.edges.proofs.Readings.{no-refusal}
@@ -97,20 +97,23 @@ returns-5 c =
     (edge-refused tc tk x n p (s .args .size) (r .refusal .result) e z (omega arith)
     (far-off tc tk x (is-accepted tc tk x n p (s .args .size) (r .refusal .result) e z) (axisOf n) Z p (levelOf (s .args .size)) (c .if5 .taken)))
 
+mul-key : tie.Need-mul-key
+mul-key c = search needs
+
+add-key : tie.Need-add-key
+add-key c = search needs
+
+mul-key-2 : tie.Need-mul-key-2
+mul-key-2 c = search needs
+
+add-key-2 : tie.Need-add-key-2
+add-key-2 c = search needs
+
 slice-aggregate-enquire-accepted : tie.Need-slice-aggregate-enquire-accepted
 slice-aggregate-enquire-accepted c = search needs
 
 slice-aggregate-enquire-accepted-2 : tie.Need-slice-aggregate-enquire-accepted-2
 slice-aggregate-enquire-accepted-2 c = search needs
-
-cast-enquire-accepted : tie.Need-cast-enquire-accepted
-cast-enquire-accepted c = search needs
-
-cast-enquire-accepted-2 : tie.Need-cast-enquire-accepted-2
-cast-enquire-accepted-2 c = search needs
-
-cast-enquire-accepted-3 : tie.Need-cast-enquire-accepted-3
-cast-enquire-accepted-3 c = search needs
 
 level-of-requires : tie.Need-level-of-requires
 level-of-requires c κs = search needs
@@ -148,8 +151,8 @@ returns-6 c =
     let e = r .refusal .ensures .0 in
     let z = c .before .before .before .before .before .before .before .before .if1 .left in
     both tc tk x n p (s .args .size) _
-    (c .enquire-accepted .ensures ∙ ap (edgeAnswer tc tk x (axisOf n) p) (c .before .level-of .ensures)
-    ∙ enquiry-answer tc tk x n p (s .args .size) (r .refusal .result) e z (omega arith))
+    (c .enquire-accepted .ensures p (record { x-fits = omega arith; y-fits = omega arith }) (key-is (s .args .x) (s .args .y) (s .args .z)) ∙
+    ap (edgeAnswer tc tk x (axisOf n) p) (c .before .level-of .ensures) ∙ enquiry-answer tc tk x n p (s .args .size) (r .refusal .result) e z (omega arith))
 
 pub enquire-spec : {M : Type 1} → statement M
 enquire-spec =
@@ -164,11 +167,12 @@ enquire-spec =
     returns-3
     returns-4
     returns-5
+    mul-key
+    add-key
+    mul-key-2
+    add-key-2
     slice-aggregate-enquire-accepted
     slice-aggregate-enquire-accepted-2
-    cast-enquire-accepted
-    cast-enquire-accepted-2
-    cast-enquire-accepted-3
     level-of-requires
     enquire-accepted-requires
     returns-6)

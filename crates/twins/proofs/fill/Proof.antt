@@ -13,48 +13,37 @@ use Rattle.twins.proofs.fill.Statement.{statement}
 use Rattle.twins.proofs.fill.Tie as tie
 
 abbrev Inv-loop : tie.InvT-loop
-Inv-loop cells corners clearance wets lowest highest far numbers slots n twins₀ v₀ twins v = (v ≤ n) × (n ≤ 14616) × (length twins ≡ 14616) ×
+Inv-loop cells corners clearance wets slots carriers n twins₀ v₀ twins v = (v ≤ n) × (n ≤ 14616) × (length twins ≡ 14616) ×
     ((j : ℕ) → j < v → getD twins j 0 ≡ twinOf (surveyOf cells corners clearance) j)
 
 abbrev μ-loop : tie.MeasureT-loop
-μ-loop cells corners clearance wets lowest highest far numbers slots n twins₀ v₀ twins v = n - v
+μ-loop cells corners clearance wets slots carriers n twins₀ v₀ twins v = n - v
 
 abbrev start : tie.At-loop Inv-loop μ-loop → tie.Start Inv-loop μ-loop
-start l = l .before .before .before .before .before .before .before .before .before .before
+start l = l .before .before .before .before .before .before .before
 
 module _ (s : tie.Start Inv-loop μ-loop) where
   few : s .args .n ≤ 14616
   few = omega (
     arith,
-    points-few (s .args .cells .now) (s .args .corners .now) (s .args .clearance) (s .pre .0) (s .args .lowest .now) (s .pre .1 .1 .0),
-    s .pre .1 .1 .1 .1 .1 .1 .1 .0,
+    points-few (s .args .cells .now) (s .args .corners .now) (s .args .clearance) (s .pre .0),
+    s .pre .1 .1 .1 .1 .0,
   )
 
   count : s .args .n ≡ length (slotsBelow (surveyOf (s .args .cells .now) (s .args .corners .now) (s .args .clearance)) 14616)
   count =
-      s .pre .1 .1 .1 .1 .1 .1 .1 .0 ∙
-      points-slots (s .args .cells .now) (s .args .corners .now) (s .args .clearance) (s .pre .0) (s .args .lowest .now) (s .pre .1 .1 .0)
+      s .pre .1 .1 .1 .1 .0 ∙
+      points-slots (s .args .cells .now) (s .args .corners .now) (s .args .clearance) (s .pre .0)
 
 loop-holds : tie.Need-loop-holds Inv-loop μ-loop
 loop-holds c =
-    let s = c .before .before .before .before .before .before .before .before .before in
-    (omega arith, few s, s .pre .1 .1 .1 .1 .1 .1 .1 .1, λ j h. absurd (omega arith))
+    let s = c .before .before .before .before .before .before in
+    (omega arith, few s, s .pre .1 .1 .1 .1 .1, λ j h. absurd (omega arith))
 
 twin-of-requires : tie.Need-twin-of-requires Inv-loop μ-loop
 twin-of-requires c κs =
-    let s = start (c .before) in (
-      s .pre .0,
-      (
-        s .pre .1 .0,
-        (
-          s .pre .1 .1 .0,
-          (
-            s .pre .1 .1 .1 .0,
-            (s .pre .1 .1 .1 .1 .0, (s .pre .1 .1 .1 .1 .1 .0, (s .pre .1 .1 .1 .1 .1 .1 .0, (omega (arith, count s), omega arith)))),
-          ),
-        ),
-      ),
-    )
+    let s = start (c .before) in
+    (s .pre .0, (s .pre .1 .0, (s .pre .1 .1 .0, (s .pre .1 .1 .1 .0, (omega (arith, count s), omega arith)))))
 
 mul-twins : tie.Need-mul-twins Inv-loop μ-loop
 mul-twins c = search needs

@@ -12,23 +12,23 @@ use Rattle.enquiry.proofs.answers.count_crossed.Statement.{statement}
 use Rattle.enquiry.proofs.answers.count_crossed.Tie as tie
 
 abbrev Inv-loop : tie.InvT-loop
-Inv-loop cells corners clearance wets lowest far slot n₀ i₀ n i = (i ≤ slot) × (n ≤ i) × (n ≡ length (slotsBelow (surveyOf cells corners clearance) i))
+Inv-loop cells corners clearance wets slots slot n₀ i₀ n i = (i ≤ slot) × (n ≤ i) × (n ≡ length (slotsBelow (surveyOf cells corners clearance) i))
 
 abbrev μ-loop : tie.MeasureT-loop
-μ-loop cells corners clearance wets lowest far slot n₀ i₀ n i = slot - i
+μ-loop cells corners clearance wets slots slot n₀ i₀ n i = slot - i
 
 abbrev start : tie.At-loop Inv-loop μ-loop → tie.Start Inv-loop μ-loop
-start l = l .before .before .before .before .before .before
+start l = l .before .before .before .before .before
 
 loop-holds : tie.Need-loop-holds Inv-loop μ-loop
 loop-holds c =
-    let s = c .before .before .before .before .before in
+    let s = c .before .before .before .before in
     (omega arith, omega arith, sym (none-below (surveyOf (s .args .cells .now) (s .args .corners .now) (s .args .clearance))))
 
 is-crossed-requires : tie.Need-is-crossed-requires Inv-loop μ-loop
 is-crossed-requires c κs =
     let s = start (c .before) in
-    (s .pre .0, (s .pre .1 .0, (s .pre .1 .1 .0, (s .pre .1 .1 .1 .0, omega arith))))
+    (s .pre .0, (s .pre .1 .0, (s .pre .1 .1 .0, omega arith)))
 
 mark-requires : tie.Need-mark-requires Inv-loop μ-loop
 mark-requires c κs = search needs

@@ -12,28 +12,17 @@ use Rattle.rules.specs.Survey.{cellsOf, cornersOf, wetAt}
 use Rattle.rules.specs.Edges.{isEdge, odd, spotOn}
 use Rattle.rules.specs.Outputs.{surveyOf}
 use Rattle.places.specs.Places.{asSpot}
-use Rattle.records.specs.Keys.{placesOf}
-use Rattle.edges.specs.Tables.{placeAt, OddEdge, Sought, CarrierSlot}
+use Rattle.records.specs.Keys.{keyOf, placesOf, Short}
+use Rattle.edges.specs.Tables.{placeAt, OddEdge, CarrierSlot}
 use Rattle.edges.proofs.Descent.{slot-numbers}
-use Rattle.enquiry.proofs.Enquiring.{key-is, answer-none, answer-even, answer-crossing}
 use Rattle.edges.proofs.Numbering.{below-le}
 use Rattle.edges.proofs.Readings.{corners, no-refusal, odd-read}
-use borrow.Author.Needs.{needs}
+use Rattle.enquiry.proofs.Enquiring.{placed, placed-short, placed-key, answer-none, answer-even, answer-crossing}
 use Rattle.enquiry.proofs.answers.edge_answer.Statement.{statement}
 use Rattle.enquiry.proofs.answers.edge_answer.Tie as tie
 
 abbrev start : tie.After-edge-record → tie.Start
-start f = f .before .before .before .before .before .before .before
-
-abbrev place : tie.After-edge-record → Place
-place f = record { x = start f .args .x; y = start f .args .y; z = start f .args .z }
-
-sought : (f : tie.After-edge-record) →
-    Sought (start f .args .cells .now) (start f .args .corners .now) (axisOf (start f .args .axis)) (place f) (start f .args .level) (f .edge-record .result)
-sought f =
-    let s = start f in
-    f .edge-record .ensures (place f) (record { x-fits = omega (arith, s .fits .x); y-fits = omega (arith, s .fits .y) }) (key-is (s .args .x)
-    (s .args .y) (s .args .z))
+start f = f .before .before .before .before .before
 
 -- the edge is there
 module _ (c : tie.Else1) where
@@ -43,14 +32,17 @@ module _ (c : tie.Else1) where
   inside : c .before .edge-record .result < length (start (c .before) .args .corners .now) / 10
   inside = omega arith
 
-  here : T (isEdge (cellsOf (start (c .before) .args .cells .now)) (axisOf (start (c .before) .args .axis)) (place (c .before))
-      (start (c .before) .args .level)) ×
-      (placeAt (placesOf (start (c .before) .args .corners .now)) (c .before .edge-record .result) ≡ place (c .before))
-  here = sought f .found inside
+  here : (p : Place) → Short p → start (c .before) .args .key ≡ keyOf p →
+      T (isEdge (cellsOf (start (c .before) .args .cells .now)) (axisOf (start (c .before) .args .axis)) p (start (c .before) .args .level)) ×
+      (placeAt (placesOf (start (c .before) .args .corners .now)) (c .before .edge-record .result) ≡ p)
+  here p w e = f .edge-record .ensures p w e .found inside
 
   is-edge : T (isEdge (cellsOf (start (c .before) .args .cells .now)) (axisOf (start (c .before) .args .axis))
       (placeAt (placesOf (start (c .before) .args .corners .now)) (c .before .edge-record .result)) (start (c .before) .args .level))
-  is-edge = subst (λ q. T (isEdge (cellsOf (start f .args .cells .now)) (axisOf (start f .args .axis)) q (start f .args .level))) (sym (here .1)) (here .0)
+  is-edge =
+      let key = start f .args .key in
+      let h = here (placed key) (placed-short key) (placed-key key) in
+      subst (λ q. T (isEdge (cellsOf (start f .args .cells .now)) (axisOf (start f .args .axis)) q (start f .args .level))) (sym (h .1)) (h .0)
 
 abbrev found : tie.After-upper-end → tie.After-edge-record
 found u = u .before .before
@@ -65,15 +57,6 @@ parity u b d =
     let s = start (found u) in
     sym (odd-read (s .args .corners .now) (s .args .clearance) (s .args .wets .now) (s .pre .1 .0) (axisOf (s .args .axis)) _ _ (s .args .level)
     (inside (u .before)) (u .upper-end .ensures)) ∙ d
-
-parity-at : (u : tie.After-upper-end) (b : Bool) →
-    odd (wetAt (cornersOf (start (found u) .args .corners .now)) (start (found u) .args .clearance)) (axisOf (start (found u) .args .axis))
-    (placeAt (placesOf (start (found u) .args .corners .now)) (found u .edge-record .result)) (start (found u) .args .level) ≡ b →
-    odd (wetAt (cornersOf (start (found u) .args .corners .now)) (start (found u) .args .clearance)) (axisOf (start (found u) .args .axis)) (place (found u))
-    (start (found u) .args .level) ≡ b
-parity-at u b e =
-    let s = start (found u) in
-    ap (λ q. odd (wetAt (cornersOf (s .args .corners .now)) (s .args .clearance)) (axisOf (s .args .axis)) q (s .args .level)) (sym (here (u .before) .1)) ∙ e
 
 abbrev ended : tie.Else2 → tie.After-upper-end
 ended c = c .before .before .before
@@ -91,37 +74,28 @@ odd-edge : (c : tie.Else2) →
     (found (ended c) .edge-record .result) (entry c .args .level)
 odd-edge c = record { inside = inside (ended c .before); is-edge = is-edge (ended c .before); is-odd = →true (is-odd c) }
 
-mul-key : tie.Need-mul-key
-mul-key c = search needs
-
-add-key : tie.Need-add-key
-add-key c = search needs
-
-mul-key-2 : tie.Need-mul-key-2
-mul-key-2 c = search needs
-
-add-key-2 : tie.Need-add-key-2
-add-key-2 c = search needs
-
 edge-record-requires : tie.Need-edge-record-requires
-edge-record-requires c κs = search needs
+edge-record-requires c κs =
+    let s = c .before .before .before .before in
+    (s .pre .0, (s .pre .1 .1 .0, s .pre .1 .1 .1))
 
 returns : tie.Need-returns
 returns c =
-    let s = start (c .before) in
-    answer-none (s .args .cells .now) (s .args .corners .now) (s .args .clearance) (axisOf (s .args .axis)) (place (c .before)) (s .args .level)
-    (sought (c .before) .none (omega arith))
+    let f = c .before in
+    let s = start f in
+    λ p w e. answer-none (s .args .cells .now) (s .args .corners .now) (s .args .clearance) (axisOf (s .args .axis)) p (s .args .level)
+    (f .edge-record .ensures p w e .none (omega arith))
 
 upper-end-requires : tie.Need-upper-end-requires
 upper-end-requires c κs =
     let s = start (c .before) in (
       no-refusal (s .args .cells .now) (s .args .corners .now) (s .args .clearance) (s .pre .0),
-      (s .pre .1 .1 .0, (s .pre .1 .1 .1 .1 .0, (s .pre .1 .1 .1 .1 .1, inside c, is-edge c))),
+      (s .pre .1 .1 .0, (s .pre .1 .1 .1, inside c, is-edge c)),
     )
 
 shared-slice-read-if2 : tie.Need-shared-slice-read-if2
 shared-slice-read-if2 c =
-    let s = start (c .before .before .before) in
+    let s = start (found (c .before)) in
     omega (arith, s .pre .1 .0 .size, corners (s .args .cells .now) (s .args .corners .now) (s .args .clearance) (s .pre .0) .few)
 
 shared-slice-read-if2-2 : tie.Need-shared-slice-read-if2-2
@@ -140,18 +114,24 @@ returns-2 : tie.Need-returns-2
 returns-2 c =
     let u = c .before .before .before in
     let s = start (found u) in
-    answer-even (s .args .cells .now) (s .args .corners .now) (s .args .clearance) (axisOf (s .args .axis)) (place (found u)) (s .args .level)
-    (here (u .before) .0) (parity-at u false (parity u false (ap not (eq-eqb _ _ (c .if2 .taken)))))
+    let tk = s .args .corners .now in
+    let x = s .args .clearance in
+    let a = axisOf (s .args .axis) in
+    let l = s .args .level in
+    λ p w e.
+    let at = here (u .before) p w e in
+    answer-even (s .args .cells .now) tk x a p l (at .0)
+    (ap (λ q. odd (wetAt (cornersOf tk) x) a q l) (sym (at .1)) ∙ parity u false (ap not (eq-eqb _ _ (c .if2 .taken))))
 
 carrier-slot-requires : tie.Need-carrier-slot-requires
 carrier-slot-requires c κs =
     let s = entry c in
-    (s .pre .0, (s .pre .1 .0, (s .pre .1 .1 .0, (s .pre .1 .1 .1 .1 .0, (s .pre .1 .1 .1 .1 .1, odd-edge c)))))
+    (s .pre .0, (s .pre .1 .0, (s .pre .1 .1 .0, (s .pre .1 .1 .1, odd-edge c))))
 
 count-crossed-requires : tie.Need-count-crossed-requires
 count-crossed-requires c κs =
     let s = entry (c .before) in
-    (s .pre .0, (s .pre .1 .0, (s .pre .1 .1 .0, (s .pre .1 .1 .1 .1 .0, c .carrier-slot .ensures .inside))))
+    (s .pre .0, (s .pre .1 .0, (s .pre .1 .1 .0, c .carrier-slot .ensures .inside)))
 
 cast-n : tie.Need-cast-n
 cast-n c =
@@ -168,23 +148,23 @@ slot-point-requires : tie.Need-slot-point-requires
 slot-point-requires c κs =
     let s = entry (c .before .before) in
     let carried = c .before .carrier-slot .ensures in
-    (s .pre .0, (s .pre .1 .1 .0, (s .pre .1 .1 .1 .1 .0, (carried .inside, carried .crossed))))
+    (s .pre .0, (s .pre .1 .1 .0, (carried .inside, carried .crossed)))
 
 returns-3 : tie.Need-returns-3
 returns-3 c =
     let counted = c .before in
     let slot = counted .before .carrier-slot in
-    let e = counted .before .before in
-    let s = entry e in
+    let odd-found = counted .before .before in
+    let s = entry odd-found in
     let tc = s .args .cells .now in
     let tk = s .args .corners .now in
     let x = s .args .clearance in
     let a = axisOf (s .args .axis) in
     let l = s .args .level in
-    let p = place (found (ended e)) in
-    let at = here (ended e .before) in
+    λ p w e.
+    let at = here (ended odd-found .before) p w e in
     let carried = subst (λ q. CarrierSlot (surveyOf tc tk x) a q l (slot .result)) (at .1) (slot .ensures) in
-    answer-crossing tc tk x a p l (at .0) (parity-at (ended e) true (is-odd e)) (counted .count-crossed .result)
+    answer-crossing tc tk x a p l (at .0) (ap (λ q. odd (wetAt (cornersOf tk) x) a q l) (sym (at .1)) ∙ is-odd odd-found) (counted .count-crossed .result)
     (counted .count-crossed .ensures ∙ slot-numbers tc tk x (s .pre .0) a p l (slot .result) carried) (asSpot (c .slot-point .result))
     (c .slot-point .ensures ∙ ap (spotOn (cornersOf tk) x) (carried .carries))
 
@@ -192,10 +172,6 @@ pub edge-answer-spec : {M : Type 1} → statement M
 edge-answer-spec =
     tie.close
     (tie.spec
-    mul-key
-    add-key
-    mul-key-2
-    add-key-2
     edge-record-requires
     returns
     upper-end-requires

@@ -9,23 +9,17 @@ use Rattle.enquiry.proofs.answers.enquire_accepted.Tie as tie
 
 -- ---- from each call back to the one before
 
-abbrev at-start : tie.After-far → tie.Start
-at-start c = c .before .before .before .before .before .before .before
+abbrev at-start : tie.After-slots → tie.Start
+at-start c = c .before .before .before .before .before
 
 abbrev noted : tie.After-wets → tie.After-fill-levels
-noted c = c .before .before .before .before
+noted c = c .before .before
 
-abbrev marked : tie.After-far3 → tie.After-fill-wets
-marked c = c .before .before .before .before .before
+abbrev marked : tie.After-slots3 → tie.After-fill-wets
+marked c = c .before .before .before
 
 slice-aggregate-fill-levels : tie.Need-slice-aggregate-fill-levels
 slice-aggregate-fill-levels c = search needs
-
-slice-aggregate-fill-levels-2 : tie.Need-slice-aggregate-fill-levels-2
-slice-aggregate-fill-levels-2 c = search needs
-
-slice-aggregate-fill-levels-3 : tie.Need-slice-aggregate-fill-levels-3
-slice-aggregate-fill-levels-3 c = search needs
 
 fill-levels-requires : tie.Need-fill-levels-requires
 fill-levels-requires c κs =
@@ -34,7 +28,7 @@ fill-levels-requires c κs =
     let tk = s .args .corners .now in
     let x = s .args .clearance in (
       no-refusal tc tk x (s .pre .0),
-      (s .pre .1 .1 .0, (s .pre .1 .0, none-noted tk 14616 refl (omega (arith, corners tc tk x (s .pre .0) .few)))),
+      (s .pre .1 .1 .0, (s .pre .1 .0, none-noted tk 43848 refl (omega (arith, corners tc tk x (s .pre .0) .few)))),
     )
 
 slice-aggregate-fill-wets : tie.Need-slice-aggregate-fill-wets
@@ -52,36 +46,25 @@ slice-aggregate-edge-answer c = search needs
 slice-aggregate-edge-answer-2 : tie.Need-slice-aggregate-edge-answer-2
 slice-aggregate-edge-answer-2 c = search needs
 
-slice-aggregate-edge-answer-3 : tie.Need-slice-aggregate-edge-answer-3
-slice-aggregate-edge-answer-3 c = search needs
-
-slice-aggregate-edge-answer-4 : tie.Need-slice-aggregate-edge-answer-4
-slice-aggregate-edge-answer-4 c = search needs
-
 edge-answer-requires : tie.Need-edge-answer-requires
 edge-answer-requires c κs =
     let wets = marked c in
     let levels = noted (wets .before) in
     let s = at-start (levels .before) in
-    let l = levels .fill-levels .ensures in
-    (s .pre .0, (wets .fill-wets .ensures, (l .low, (l .high, (l .ends, s .pre .1 .1 .1)))))
+    (s .pre .0, (wets .fill-wets .ensures, (levels .fill-levels .ensures, s .pre .1 .1 .1)))
 
 returns : tie.Need-returns
-returns c = search needs
+returns c = c .edge-answer .ensures
 
 pub enquire-accepted-spec : {M : Type 1} → statement M
 enquire-accepted-spec =
     tie.close
     (tie.spec
     slice-aggregate-fill-levels
-    slice-aggregate-fill-levels-2
-    slice-aggregate-fill-levels-3
     fill-levels-requires
     slice-aggregate-fill-wets
     fill-wets-requires
     slice-aggregate-edge-answer
     slice-aggregate-edge-answer-2
-    slice-aggregate-edge-answer-3
-    slice-aggregate-edge-answer-4
     edge-answer-requires
     returns)
