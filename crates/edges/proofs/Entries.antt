@@ -7,7 +7,12 @@ use native.Mathlib.Omega.{arith}
 use lib.Dec.{ltb}
 use lib.ListN.{length, getD, set, length-set}
 use lib.Seq.{getD-set-same, getD-set-other}
-use Rattle.edges.specs.Tables.{lowestAt, highestAt, farAt, numberAt, withNumber, withEdge}
+use Rattle.edges.specs.Tables.{lowestAt, highestAt, farAt, numberAt}
+use Rattle.edges.specs.Noting.{withEdge}
+
+-- the table with n entered as the number of slot i
+unfoldable pub withNumber : List ℕ → ℕ → ℕ → List ℕ
+withNumber slots i n = set slots (3 * i + 2) n
 
 -- the lowest level of the packed pair, and the highest
 low-of : (a b : ℕ) → a < 16 → (a + 16 * b) % 16 ≡ a

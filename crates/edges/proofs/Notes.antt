@@ -21,8 +21,9 @@ use Rattle.records.specs.Keys.{placesOf}
 use Rattle.records.proofs.Keys.{Bytes}
 use Rattle.cells.specs.Laid.{cellAt}
 use Rattle.octants.specs.Octants.{Octant, Octants}
-use Rattle.edges.specs.Tables.{cellEdges, edgesOf, startsAt, lowestIn, highestIn, placeAt, lowestAt, highestAt, farAt, withEdge}
+use Rattle.edges.specs.Tables.{cellEdges, edgesOf, startsAt, lowestIn, highestIn, placeAt, lowestAt, highestAt, farAt}
 use Rattle.edges.specs.Tables.{Tabled, UpperEnd, FarEnds, Levels}
+use Rattle.edges.specs.Noting.{withEdge}
 use Rattle.edges.proofs.Entries.{edge-size, edge-low, edge-high, edge-far, edge-low-other, edge-high-other, edge-far-other}
 use Rattle.edges.proofs.Starts.{→start}
 use Rattle.edges.proofs.Find.{one-record}

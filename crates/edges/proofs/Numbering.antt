@@ -15,9 +15,9 @@ use Rattle.rules.specs.Survey.{cellsOf, Survey}
 use Rattle.rules.specs.Edges.{pointEdges}
 use Rattle.rules.specs.Outputs.{surveyOf}
 use Rattle.records.specs.Keys.{placesOf}
-use Rattle.edges.specs.Tables.{edgesOf, lowestIn, placeAt, crossedSlot, slotsBelow, numberAt, withNumber, UpperEnd, Levelled, Numbered, Carriers}
+use Rattle.edges.specs.Tables.{edgesOf, lowestIn, placeAt, crossedSlot, slotsBelow, numberAt, UpperEnd, Levelled, Numbered, Carriers}
 use Rattle.edges.specs.Numbering.{NumberedBelow}
-use Rattle.edges.proofs.Entries.{number-size, number-here, number-other, number-low, number-high, number-far}
+use Rattle.edges.proofs.Entries.{withNumber, number-size, number-here, number-other, number-low, number-high, number-far}
 use Rattle.edges.proofs.Levels.{Edged}
 use Rattle.edges.proofs.Points.{below-next, point-count}
 

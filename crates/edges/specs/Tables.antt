@@ -5,7 +5,7 @@ use mathlib.Core.Path.{_≡_}
 use mathlib.Core.Bool.{Bool, false, _&&_, cond}
 use mathlib.Core.List.{List, [], _∷_}
 use lib.Dec.{T, eqb, ltb}
-use lib.ListN.{length, getD, set}
+use lib.ListN.{length, getD}
 use lib.Ieee.{Float}
 use Rattle.base.specs.Lists.{keep, collect, count, bit}
 use Rattle.base.specs.Grid.{Place, origin, Axis, axes, axisNumber, axisOf, move, same}
@@ -102,16 +102,6 @@ farAt slots i = getD slots (3 * i + 1) 0
 
 unfoldable pub numberAt : List ℕ → ℕ → ℕ
 numberAt slots i = getD slots (3 * i + 2) 0
-
--- the table with n entered as the number of slot i
-unfoldable pub withNumber : List ℕ → ℕ → ℕ → List ℕ
-withNumber slots i n = set slots (3 * i + 2) n
-
--- the table with an edge of level l to corner record m noted at slot i
-unfoldable pub withEdge : List ℕ → ℕ → ℕ → ℕ → List ℕ
-unfolding lowestAt highestAt farAt
-withEdge slots i l m =
-    set (set slots (3 * i + 1) (cond (ltb l (lowestAt slots i)) m (farAt slots i))) (3 * i) (min l (lowestAt slots i) + 16 * max l (highestAt slots i))
 
 -- g gives for each slot of a corner record f of its axis and place
 abbrev pub Tabled : List ℕ → (Axis → Place → ℕ) → (ℕ → ℕ) → Type 0

@@ -6,7 +6,8 @@ ghost use Rattle.rules.specs.Survey.{cellsOf};
 ghost use Rattle.rules.specs.Outputs.{surveyRefusal};
 ghost use Rattle.cells.specs.Laid.{cellAt};
 ghost use Rattle.octants.specs.Octants.{Octants};
-ghost use Rattle.edges.specs.Tables.{edgesOf, withEdge, Levels};
+ghost use Rattle.edges.specs.Tables.{edgesOf, Levels};
+ghost use Rattle.edges.specs.Noting.{withEdge};
 use super::keys;
 use super::table;
 

@@ -6,7 +6,7 @@ use native.Mathlib.Omega.{arith}
 use Rattle.edges.specs.Numbering.{NumberedBelow}
 use Rattle.edges.proofs.Numbering.{number-next}
 use Rattle.edges.proofs.Readings.{record-outside}
-use Rattle.edges.specs.Tables.{withNumber}
+use Rattle.edges.proofs.Entries.{withNumber}
 use borrow.Author.Needs.{needs}
 use Rattle.edges.proofs.number_rest.Statement.{statement}
 use Rattle.edges.proofs.number_rest.Tie as tie

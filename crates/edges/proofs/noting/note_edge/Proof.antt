@@ -6,7 +6,7 @@ use native.Mathlib.Omega.{arith}
 use lib.Dec.{ltb}
 use lib.ListN.{set, length-set}
 use borrow.Author.Needs.{needs}
-use Rattle.edges.specs.Tables.{withEdge}
+use Rattle.edges.specs.Noting.{withEdge}
 use Rattle.edges.proofs.noting.note_edge.Statement.{statement}
 use Rattle.edges.proofs.noting.note_edge.Tie as tie
 
