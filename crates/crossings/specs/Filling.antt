@@ -6,19 +6,17 @@ use mathlib.Core.List.{List}
 use lib.ListN.{length, getD}
 use lib.Ieee.{Float}
 use Rattle.rules.specs.Survey.{Survey}
-use Rattle.rules.specs.Outputs.{accepted, surveyOf}
+use Rattle.rules.specs.Outputs.{accepted}
 use Rattle.cells.specs.Laid.{cellAt}
 use Rattle.octants.specs.Octants.{Octants}
-use Rattle.edges.specs.Tables.{CellLevels, Lowest, Far, Wets, Numbers}
+use Rattle.edges.specs.Tables.{CellLevels, Wets, Numbered}
 use Rattle.crossings.specs.Crossings.{edgeAt, crossingOf}
 
 -- the survey is accepted at the clearance, and these are its tables
-pub record Known (tc tk : List ℕ) (clearance : Float) (wets lowest far numbers octants levels : List ℕ) : Type 0 where
+pub record Known (tc tk : List ℕ) (clearance : Float) (wets slots octants levels : List ℕ) : Type 0 where
   pub fit : accepted tc tk clearance ≡ true
   pub marks : Wets tk clearance wets
-  pub low : Lowest tc tk lowest
-  pub ends : Far tc tk far
-  pub points : Numbers (surveyOf tc tk clearance) numbers
+  pub points : Numbered tc tk clearance slots
   pub cell-corners : Octants tc tk octants
   pub cell-levels : CellLevels tc levels
 

@@ -60,14 +60,12 @@ fn crossing(
     corners: &[u8],
     clearance: f32,
     wets: &[u8],
-    lowest: &[u8],
-    far: &[u16],
-    numbers: &[u16],
+    slots: &[u16],
     octants: &[u16],
     levels: &[u8],
     i: usize,
 ) -> u16
-    requires { ⌜ Known (now cells) (now corners) clearance (now wets) (now lowest) (now far) (now numbers) (now octants) (now levels) ⌝ }
+    requires { ⌜ Known (now cells) (now corners) clearance (now wets) (now slots) (now octants) (now levels) ⌝ }
     requires { ⌜ i < 12 * (length (now cells) / 4) ⌝ }
     ensures { λ r. ⌜ r ≡ crossingOf (surveyOf (now (cells .entry)) (now (corners .entry)) clearance)
         (edgeAt (cellAt (now (cells .entry)) (i / 12)) (i % 12)) ⌝ }
@@ -84,9 +82,7 @@ fn crossing(
         corners,
         clearance,
         wets,
-        lowest,
-        far,
-        numbers,
+        slots,
         (e / 4) as u32,
         start,
         levels[n],
@@ -99,14 +95,12 @@ fn fill_points(
     corners: &[u8],
     clearance: f32,
     wets: &[u8],
-    lowest: &[u8],
-    far: &[u16],
-    numbers: &[u16],
+    slots: &[u16],
     octants: &[u16],
     levels: &[u8],
     crossings: &mut [u16],
 )
-    requires { ⌜ Known (now cells) (now corners) clearance (now wets) (now lowest) (now far) (now numbers) (now octants) (now levels) ⌝ }
+    requires { ⌜ Known (now cells) (now corners) clearance (now wets) (now slots) (now octants) (now levels) ⌝ }
     requires { ⌜ 13 * (length (now cells) / 4) ≤ length (now crossings) ⌝ }
     ensures { λ _. ⌜ PointsTo (surveyOf (now (cells .entry)) (now (corners .entry)) clearance) (now (cells .entry)) (12 * (length (now (cells .entry)) / 4))
         (now (crossings .exit)) ⌝ }
@@ -119,9 +113,7 @@ fn fill_points(
             corners,
             clearance,
             wets,
-            lowest,
-            far,
-            numbers,
+            slots,
             octants,
             levels,
             i,
@@ -152,14 +144,12 @@ pub fn fill(
     corners: &[u8],
     clearance: f32,
     wets: &[u8],
-    lowest: &[u8],
-    far: &[u16],
-    numbers: &[u16],
+    slots: &[u16],
     octants: &[u16],
     levels: &[u8],
     crossings: &mut [u16],
 )
-    requires { ⌜ Known (now cells) (now corners) clearance (now wets) (now lowest) (now far) (now numbers) (now octants) (now levels) ⌝ }
+    requires { ⌜ Known (now cells) (now corners) clearance (now wets) (now slots) (now octants) (now levels) ⌝ }
     requires { ⌜ 13 * (length (now cells) / 4) ≤ length (now crossings) ⌝ }
     ensures { λ _. ⌜ Crossings (surveyOf (now (cells .entry)) (now (corners .entry)) clearance) (now (cells .entry)) (now (crossings .exit)) ⌝ }
 {
@@ -168,9 +158,7 @@ pub fn fill(
         corners,
         clearance,
         wets,
-        lowest,
-        far,
-        numbers,
+        slots,
         octants,
         levels,
         crossings,

@@ -11,17 +11,15 @@ use Rattle.base.specs.Lists.{collect}
 use Rattle.rules.specs.Edges.{pointEdges}
 use Rattle.rules.specs.Steps.{Triangle}
 use Rattle.rules.specs.Outputs.{accepted, surveyOf, numbers, written}
-use Rattle.edges.specs.Tables.{Wets, Lowest, Far, Numbers, Slots, Twins}
+use Rattle.edges.specs.Tables.{Wets, Numbered, Carriers, Twins}
 use Rattle.across.specs.Across.{Beyond}
 use Rattle.crossings.specs.Crossings.{Crossings}
 
 -- the tables of edges and points, filled: n is the number of points
-pub record Filled (tc tk : List ℕ) (clearance : Float) (wets lowest far numbers slots twins : List ℕ) (n : ℕ) : Type 0 where
+pub record Filled (tc tk : List ℕ) (clearance : Float) (wets slots carriers twins : List ℕ) (n : ℕ) : Type 0 where
   pub wet : Wets tk clearance wets
-  pub low : Lowest tc tk lowest
-  pub end : Far tc tk far
-  pub number : Numbers (surveyOf tc tk clearance) numbers
-  pub slot : Slots (surveyOf tc tk clearance) slots
+  pub slot : Numbered tc tk clearance slots
+  pub carrier : Carriers (surveyOf tc tk clearance) carriers
   pub twin : Twins (surveyOf tc tk clearance) twins
   pub count : n ≡ length (pointEdges (surveyOf tc tk clearance))
 

@@ -173,36 +173,21 @@ fn fill_tables(
     levels: &[u8],
     octants: &[u16],
     wets: &mut [u8],
-    lowest: &mut [u8],
-    far: &mut [u16],
-    numbers: &mut [u16],
     slots: &mut [u16],
+    carriers: &mut [u16],
     twins: &mut [u16],
 ) -> usize
     requires { ⌜ accepted (now cells) (now corners) clearance ≡ true ⌝ }
     requires { ⌜ CellLevels (now cells) (now levels) × Octants (now cells) (now corners) (now octants) ⌝ }
-    requires { ⌜ Levels (now corners) [] (now lowest) (replicate 14616 0) (now far) ⌝ }
-    requires { ⌜ (length (now wets) ≡ 4872) × (length (now numbers) ≡ 14616) × (length (now slots) ≡ 14616) × (length (now twins) ≡ 14616) ⌝ }
-    ensures { λ r. ⌜ Filled (now (cells .entry)) (now (corners .entry)) clearance (now (wets .exit)) (now (lowest .exit)) (now (far .exit))
-        (now (numbers .exit)) (now (slots .exit)) (now (twins .exit)) r ⌝ }
+    requires { ⌜ Levels (now corners) [] (now slots) ⌝ }
+    requires { ⌜ (length (now wets) ≡ 4872) × (length (now carriers) ≡ 14616) × (length (now twins) ≡ 14616) ⌝ }
+    ensures { λ r. ⌜ Filled (now (cells .entry)) (now (corners .entry)) clearance (now (wets .exit)) (now (slots .exit)) (now (carriers .exit))
+        (now (twins .exit)) r ⌝ }
 {
-    let mut highest = [0u8; 14616];
     edges::fill_wets(corners, clearance, wets);
-    edges::fill_levels(cells, corners, octants, levels, lowest, &mut highest, far);
-    let n = edges::number_slots(cells, corners, clearance, wets, lowest, far, numbers, slots);
-    twins::fill(
-        cells,
-        corners,
-        clearance,
-        wets,
-        lowest,
-        &highest,
-        far,
-        numbers,
-        slots,
-        n,
-        twins,
-    );
+    edges::fill_levels(cells, corners, octants, levels, slots);
+    let n = edges::number_slots(cells, corners, clearance, wets, slots, carriers);
+    twins::fill(cells, corners, clearance, wets, slots, carriers, n, twins);
     n
 }
 
@@ -222,10 +207,8 @@ fn draw_accepted(
         (now (points .exit)) (now (triangles .exit)) ⌝ }
 {
     let mut wets = [0u8; 4872];
-    let mut lowest = [11u8; 14616];
-    let mut far = [0u16; 14616];
-    let mut numbers = [0u16; 14616];
-    let mut slots = [0u16; 14616];
+    let mut slots = [11u16; 43848];
+    let mut carriers = [0u16; 14616];
     let mut twins = [0u16; 14616];
     let n = fill_tables(
         cells,
@@ -234,27 +217,14 @@ fn draw_accepted(
         levels,
         octants,
         &mut wets,
-        &mut lowest,
-        &mut far,
-        &mut numbers,
         &mut slots,
+        &mut carriers,
         &mut twins,
     );
     let mut across = [0u16; 12294];
     across::fill(cells, &mut across);
     let mut crossings = [0u16; 26637];
-    crossings::fill(
-        cells,
-        corners,
-        clearance,
-        &wets,
-        &lowest,
-        &far,
-        &numbers,
-        octants,
-        levels,
-        &mut crossings,
-    );
+    crossings::fill(cells, corners, clearance, &wets, &slots, octants, levels, &mut crossings);
     let room = triangles.len();
     let write = 3 * n <= points.len();
     let m = draw_triangles(cells, &across, &crossings, &twins, n, write, triangles);
@@ -262,7 +232,7 @@ fn draw_accepted(
     if number != 0 {
         return result(number, n, m);
     }
-    edges::write_points(cells, corners, clearance, &lowest, &far, &slots, n, points);
+    edges::write_points(cells, corners, clearance, &slots, &carriers, n, points);
     result(0, n, m)
 }
 

@@ -10,8 +10,8 @@ use borrow.Author.Needs.{needs}
 use Rattle.crossings.proofs.crossing.Statement.{statement}
 use Rattle.crossings.proofs.crossing.Tie as tie
 
-abbrev start : tie.After-shared-slice-known8 → tie.Start
-start c = c .before .before .before .before .before .before .before .before
+abbrev start : tie.After-shared-slice-known6 → tie.Start
+start c = c .before .before .before .before .before .before
 
 mul-octant-record : tie.Need-mul-octant-record
 mul-octant-record c = search needs
@@ -72,7 +72,7 @@ point-of-requires c κs =
     let r = c .before .before .before .before in
     let k = s r .pre .0 in
     let edge = odd-edge (between r) (k .marks) (c .before .if1 .left) (level-read r) (k .fit) in
-    (k .fit, (k .marks, (k .low, (k .ends, (k .points, (omega arith, edge))))))
+    (k .fit, (k .marks, (k .points, (omega arith, edge))))
 
 returns-2 : tie.Need-returns-2
 returns-2 c =

@@ -12,14 +12,14 @@ use Rattle.crossings.proofs.fill_points.Statement.{statement}
 use Rattle.crossings.proofs.fill_points.Tie as tie
 
 abbrev Inv-loop : tie.InvT-loop
-Inv-loop cells corners clearance wets lowest far numbers octants levels crossings₀ count i₀ crossings i =
+Inv-loop cells corners clearance wets slots octants levels crossings₀ count i₀ crossings i =
     (i ≤ count) × (length crossings ≡ length crossings₀) × PointsTo (surveyOf cells corners clearance) cells i crossings
 
 abbrev μ-loop : tie.MeasureT-loop
-μ-loop cells corners clearance wets lowest far numbers octants levels crossings₀ count i₀ crossings i = count - i
+μ-loop cells corners clearance wets slots octants levels crossings₀ count i₀ crossings i = count - i
 
 abbrev start : tie.After-slice-known Inv-loop μ-loop → tie.Start Inv-loop μ-loop
-start c = c .before .before .before .before .before .before .before .before .before
+start c = c .before .before .before .before .before .before .before
 
 mul-count : tie.Need-mul-count Inv-loop μ-loop
 mul-count c = omega (arith, cells-small _ _ _ (start c .pre .0 .fit))
