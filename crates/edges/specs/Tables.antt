@@ -15,7 +15,6 @@ use Rattle.rules.specs.Steps.{twinOf}
 use Rattle.rules.specs.Closing.{cellEdgesOn}
 use Rattle.rules.specs.Outputs.{surveyOf}
 use Rattle.records.specs.Keys.{placesOf}
-use Rattle.cells.specs.Laid.{cellAt}
 
 -- ---- levels
 
@@ -78,11 +77,6 @@ slotEdge s i =
     edge a p (lowestLevel s a p)
 
 -- ---- the tables
-
--- the levels of the cells, record by record
-pub record CellLevels (tc levels : List ℕ) : Type 0 where
-  pub room : length tc / 4 ≤ length levels
-  pub level : (n : ℕ) → n < length tc / 4 → getD levels n 0 ≡ cellAt tc n .level
 
 -- corner record m is at the upper end of the edge of level l that starts at corner record k on axis a
 pub record UpperEnd (tk : List ℕ) (a : Axis) (k l m : ℕ) : Type 0 where

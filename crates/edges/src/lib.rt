@@ -13,8 +13,9 @@ ghost use Rattle.rules.specs.Edges.{edge, pointEdges, pointOf, spotOn};
 ghost use Rattle.rules.specs.Outputs.{rising, surveyRefusal, accepted, surveyOf, pointFloats, written};
 ghost use Rattle.records.specs.Keys.{keyOf, placesOf, Short};
 ghost use Rattle.places.specs.Places.{asSpot};
+ghost use Rattle.cells.specs.Laid.{Laid};
 ghost use Rattle.octants.specs.Octants.{Octants};
-ghost use Rattle.edges.specs.Tables.{placeAt, crossedSlot, slotEdge, CellLevels, Levels, Levelled, Numbered, Wets, Carriers, OddEdge, Sought};
+ghost use Rattle.edges.specs.Tables.{placeAt, crossedSlot, slotEdge, Levels, Levelled, Numbered, Wets, Carriers, OddEdge, Sought};
 ghost use Rattle.edges.specs.Numbering.{NumberedBelow};
 use places::Point;
 
@@ -24,17 +25,18 @@ mod noting;
 pub mod table;
 
 // The levels and upper ends of the table of slots, filled: of the edges of all cells, record by record.
-pub fn fill_levels(cells: &[u8], corners: &[u8], octants: &[u16], levels: &[u8], slots: &mut [u16])
+pub fn fill_levels(cells: &[u8], corners: &[u8], octants: &[u16], laid: &[u64], slots: &mut [u16])
     requires { ⌜ surveyRefusal (now cells) (now corners) ≡ 0 ⌝ }
     requires { ⌜ Octants (now cells) (now corners) (now octants) ⌝ }
-    requires { ⌜ CellLevels (now cells) (now levels) ⌝ }
+    requires { ⌜ Laid (now cells) (now laid) × (length (now cells) / 4 ≤ length (now laid)) ⌝ }
     requires { ⌜ Levels (now corners) [] (now slots) ⌝ }
     ensures { λ _. ⌜ Levelled (now (cells .entry)) (now (corners .entry)) (now (slots .exit)) ⌝ }
 {
     let mut n = cells.len() / 4;
     while n > 0 {
         n -= 1;
-        noting::note_cell(cells, corners, octants, slots, n, levels[n]);
+        let level = cells::level_in(laid, n);
+        noting::note_cell(cells, corners, octants, slots, n, level);
     }
 }
 

@@ -1,13 +1,14 @@
 // The enquiry of an accepted survey, from the tables.
 ghost use mathlib.Core.Path.{_≡_};
 ghost use mathlib.Core.Bool.{true};
-ghost use Prim.Native.Nat.{_<_};
+ghost use Prim.Native.Nat.{_/_, _≤_, _<_};
 ghost use lib.ListN.{length};
 ghost use Rattle.base.specs.Grid.{Place, axisOf};
 ghost use Rattle.rules.specs.Outputs.{accepted, surveyOf, answered};
 ghost use Rattle.records.specs.Keys.{keyOf, Short};
+ghost use Rattle.cells.specs.Laid.{Laid};
 ghost use Rattle.octants.specs.Octants.{Octants};
-ghost use Rattle.edges.specs.Tables.{slotsBelow, CellLevels, Levelled, Wets};
+ghost use Rattle.edges.specs.Tables.{slotsBelow, Levelled, Wets};
 ghost use Rattle.enquiry.specs.Enquiry.{edgeAnswer};
 use rules::Answer;
 use rules::Edge;
@@ -74,14 +75,14 @@ pub fn enquire_accepted(
     cells: &[u8],
     corners: &[u8],
     clearance: f32,
-    levels: &[u8],
+    laid: &[u64],
     octants: &[u16],
     axis: u32,
     key: u64,
     level: u8,
 ) -> Answer
     requires { ⌜ accepted (now cells) (now corners) clearance ≡ true ⌝ }
-    requires { ⌜ CellLevels (now cells) (now levels) ⌝ }
+    requires { ⌜ Laid (now cells) (now laid) × (length (now cells) / 4 ≤ length (now laid)) ⌝ }
     requires { ⌜ Octants (now cells) (now corners) (now octants) ⌝ }
     requires { ⌜ axis < 3 ⌝ }
     ensures { λ r. ⌜ ((p : Place) → Short p → key ≡ keyOf p →
@@ -90,7 +91,7 @@ pub fn enquire_accepted(
     // 11 everywhere: no edge starts at any slot yet.
     let mut slots = [11u16; 43848];
     let mut wets = [0u8; 4872];
-    edges::fill_levels(cells, corners, octants, levels, &mut slots);
+    edges::fill_levels(cells, corners, octants, laid, &mut slots);
     edges::fill_wets(corners, clearance, &mut wets);
     edge_answer(cells, corners, clearance, &wets, &slots, axis, key, level)
 }

@@ -36,17 +36,9 @@ pub fn enquire(
     ensures on_edge { λ r. ⌜ StaysOn (surveyOf (now (cells .entry)) (now (corners .entry)) clearance) (asked axis (record { x = x; y = y; z = z }) size)
         (answered r) ⌝ }
 {
-    let mut keys = [0u64; 2049];
-    let mut levels = [0u8; 2049];
+    let mut laid = [0u64; 2049];
     let mut octants = [0u16; 16392];
-    let number = checks::refusal(
-        cells,
-        corners,
-        clearance,
-        &mut keys,
-        &mut levels,
-        &mut octants,
-    );
+    let number = checks::refusal(cells, corners, clearance, &mut laid, &mut octants);
     if number != 0 {
         return Answer::Refused(number);
     }
@@ -67,7 +59,7 @@ pub fn enquire(
         cells,
         corners,
         clearance,
-        &levels,
+        &laid,
         &octants,
         axis,
         key,

@@ -12,11 +12,11 @@ use Rattle.edges.proofs.fill_levels.Statement.{statement}
 use Rattle.edges.proofs.fill_levels.Tie as tie
 
 abbrev Inv-loop : tie.InvT-loop
-Inv-loop cells corners octants levels slots₀ n₀ slots n =
+Inv-loop cells corners octants laid slots₀ n₀ slots n =
     (n ≤ length cells / 4) × Levels corners (edgesOf (drop n (cellsOf cells))) slots
 
 abbrev μ-loop : tie.MeasureT-loop
-μ-loop cells corners octants levels slots₀ n₀ slots n = n
+μ-loop cells corners octants laid slots₀ n₀ slots n = n
 
 abbrev start : tie.At-loop Inv-loop μ-loop → tie.Start Inv-loop μ-loop
 start l = l .before .before .before .before .before .before
@@ -29,8 +29,8 @@ loop-holds c =
 sub-n : tie.Need-sub-n Inv-loop μ-loop
 sub-n c = search needs
 
-shared-slice-read-note-cell : tie.Need-shared-slice-read-note-cell Inv-loop μ-loop
-shared-slice-read-note-cell c = search needs
+level-in-requires : tie.Need-level-in-requires Inv-loop μ-loop
+level-in-requires c κs = search needs
 
 note-cell-requires : tie.Need-note-cell-requires Inv-loop μ-loop
 note-cell-requires c κs =
@@ -42,7 +42,7 @@ note-cell-requires c κs =
       (
         s .pre .1 .0,
         (
-          (h, s .pre .1 .1 .0 .level (l .loop .n - 1) h),
+          (h, c .before .level-in .ensures ∙ s .pre .1 .1 .0 .0 .entered (l .loop .n - 1) h .level),
           levels-same _ _ _ _ (ap (λ i. edgesOf (drop i (cellsOf (s .args .cells .now)))) q) (l .loop .inv .1),
         ),
       ),
@@ -70,7 +70,7 @@ fill-levels-spec =
     μ-loop
     loop-holds
     sub-n
-    shared-slice-read-note-cell
+    level-in-requires
     note-cell-requires
     loop-less
     loop-again

@@ -14,7 +14,7 @@ use Rattle.enquiry.proofs.enquire.Statement.{statement}
 use Rattle.enquiry.proofs.enquire.Tie as tie
 
 abbrev entry : tie.After-refusal → tie.Start
-entry c = c .before .before .before .before .before .before
+entry c = c .before .before .before .before .before
 
 slice-aggregate-refusal : tie.Need-slice-aggregate-refusal
 slice-aggregate-refusal c = search needs
@@ -22,15 +22,12 @@ slice-aggregate-refusal c = search needs
 slice-aggregate-refusal-2 : tie.Need-slice-aggregate-refusal-2
 slice-aggregate-refusal-2 c = search needs
 
-slice-aggregate-refusal-3 : tie.Need-slice-aggregate-refusal-3
-slice-aggregate-refusal-3 c = search needs
-
 refusal-requires : tie.Need-refusal-requires
 refusal-requires c κs = search needs
 
 returns : tie.Need-returns
 returns c =
-    let r = c .before .before .before .before in
+    let r = c .before .before .before in
     let s = entry r in
     let tc = s .args .cells .now in
     let tk = s .args .corners .now in
@@ -42,7 +39,7 @@ returns c =
 
 returns-2 : tie.Need-returns-2
 returns-2 c =
-    let r = c .before .before .before .before .before in
+    let r = c .before .before .before .before in
     let s = entry r in
     let tc = s .args .cells .now in
     let tk = s .args .corners .now in
@@ -54,7 +51,7 @@ returns-2 c =
 
 returns-3 : tie.Need-returns-3
 returns-3 c =
-    let r = c .before .before .before .before .before .before in
+    let r = c .before .before .before .before .before in
     let s = entry r in
     let tc = s .args .cells .now in
     let tk = s .args .corners .now in
@@ -69,7 +66,7 @@ returns-3 c =
 
 returns-4 : tie.Need-returns-4
 returns-4 c =
-    let r = c .before .before .before .before .before .before .before in
+    let r = c .before .before .before .before .before .before in
     let s = entry r in
     let tc = s .args .cells .now in
     let tk = s .args .corners .now in
@@ -84,7 +81,7 @@ returns-4 c =
 
 returns-5 : tie.Need-returns-5
 returns-5 c =
-    let r = c .before .before .before .before .before .before .before .before in
+    let r = c .before .before .before .before .before .before .before in
     let s = entry r in
     let tc = s .args .cells .now in
     let tk = s .args .corners .now in
@@ -120,7 +117,7 @@ level-of-requires c κs = search needs
 
 enquire-accepted-requires : tie.Need-enquire-accepted-requires
 enquire-accepted-requires c κs =
-    let r = c .before .before .before .before .before .before .before .before .before .before .before in
+    let r = c .before .before .before .before .before .before .before .before .before .before in
     let s = entry r in
     let tc = s .args .cells .now in
     let tk = s .args .corners .now in
@@ -131,17 +128,11 @@ enquire-accepted-requires c κs =
     let z = c .before .before .before .before .before .before .before .if1 .left in
     let passed = is-accepted tc tk x n p (s .args .size) (r .refusal .result) e z in
     let few = cells-few tc tk (no-refusal tc tk x passed) in
-    let laid = r .refusal .ensures .1 .0 z in (
-      passed,
-      (
-        record { room = search (needs, few); level = λ i h. laid .entered i h .level },
-        (r .refusal .ensures .1 .1 z, omega arith),
-      ),
-    )
+    (passed, ((r .refusal .ensures .1 .0 z, search (needs, few)), (r .refusal .ensures .1 .1 z, omega arith)))
 
 returns-6 : tie.Need-returns-6
 returns-6 c =
-    let r = c .before .before .before .before .before .before .before .before .before .before .before .before in
+    let r = c .before .before .before .before .before .before .before .before .before .before .before in
     let s = entry r in
     let tc = s .args .cells .now in
     let tk = s .args .corners .now in
@@ -160,7 +151,6 @@ enquire-spec =
     (tie.spec
     slice-aggregate-refusal
     slice-aggregate-refusal-2
-    slice-aggregate-refusal-3
     refusal-requires
     returns
     returns-2
