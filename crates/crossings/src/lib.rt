@@ -62,10 +62,10 @@ fn crossing(
     wets: &[u8],
     slots: &[u16],
     octants: &[u16],
-    levels: &[u8],
+    laid: &[u64],
     i: usize,
 ) -> u16
-    requires { ⌜ Known (now cells) (now corners) clearance (now wets) (now slots) (now octants) (now levels) ⌝ }
+    requires { ⌜ Known (now cells) (now corners) clearance (now wets) (now slots) (now octants) (now laid) ⌝ }
     requires { ⌜ i < 12 * (length (now cells) / 4) ⌝ }
     ensures { λ r. ⌜ r ≡ crossingOf (surveyOf (now (cells .entry)) (now (corners .entry)) clearance)
         (edgeAt (cellAt (now (cells .entry)) (i / 12)) (i % 12)) ⌝ }
@@ -85,7 +85,7 @@ fn crossing(
         slots,
         (e / 4) as u32,
         start,
-        levels[n],
+        cells::level_in(laid, n),
     )
 }
 
@@ -97,10 +97,10 @@ fn fill_points(
     wets: &[u8],
     slots: &[u16],
     octants: &[u16],
-    levels: &[u8],
+    laid: &[u64],
     crossings: &mut [u16],
 )
-    requires { ⌜ Known (now cells) (now corners) clearance (now wets) (now slots) (now octants) (now levels) ⌝ }
+    requires { ⌜ Known (now cells) (now corners) clearance (now wets) (now slots) (now octants) (now laid) ⌝ }
     requires { ⌜ 13 * (length (now cells) / 4) ≤ length (now crossings) ⌝ }
     ensures { λ _. ⌜ PointsTo (surveyOf (now (cells .entry)) (now (corners .entry)) clearance) (now (cells .entry)) (12 * (length (now (cells .entry)) / 4))
         (now (crossings .exit)) ⌝ }
@@ -115,7 +115,7 @@ fn fill_points(
             wets,
             slots,
             octants,
-            levels,
+            laid,
             i,
         );
         i += 1;
@@ -146,10 +146,10 @@ pub fn fill(
     wets: &[u8],
     slots: &[u16],
     octants: &[u16],
-    levels: &[u8],
+    laid: &[u64],
     crossings: &mut [u16],
 )
-    requires { ⌜ Known (now cells) (now corners) clearance (now wets) (now slots) (now octants) (now levels) ⌝ }
+    requires { ⌜ Known (now cells) (now corners) clearance (now wets) (now slots) (now octants) (now laid) ⌝ }
     requires { ⌜ 13 * (length (now cells) / 4) ≤ length (now crossings) ⌝ }
     ensures { λ _. ⌜ Crossings (surveyOf (now (cells .entry)) (now (corners .entry)) clearance) (now (cells .entry)) (now (crossings .exit)) ⌝ }
 {
@@ -160,7 +160,7 @@ pub fn fill(
         wets,
         slots,
         octants,
-        levels,
+        laid,
         crossings,
     );
     fill_masks(cells, corners, clearance, octants, crossings);

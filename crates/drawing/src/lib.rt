@@ -12,7 +12,7 @@ ghost use Rattle.rules.specs.Outputs.{accepted, surveyOf, firstOf};
 ghost use Rattle.rules.specs.Closing.{ClosedIn};
 ghost use Rattle.cells.specs.Laid.{Laid};
 ghost use Rattle.octants.specs.Octants.{Octants};
-ghost use Rattle.edges.specs.Tables.{CellLevels, Levels};
+ghost use Rattle.edges.specs.Tables.{Levels};
 ghost use Rattle.leaves.specs.Leaves.{Ready, survey};
 ghost use Rattle.drawing.specs.Passes.{Filled, Known, Settled};
 ghost use Rattle.drawing.specs.Draws.{lent, Draws};
@@ -170,7 +170,7 @@ fn fill_tables(
     cells: &[u8],
     corners: &[u8],
     clearance: f32,
-    levels: &[u8],
+    laid: &[u64],
     octants: &[u16],
     wets: &mut [u8],
     slots: &mut [u16],
@@ -178,14 +178,14 @@ fn fill_tables(
     twins: &mut [u16],
 ) -> usize
     requires { ⌜ accepted (now cells) (now corners) clearance ≡ true ⌝ }
-    requires { ⌜ CellLevels (now cells) (now levels) × Octants (now cells) (now corners) (now octants) ⌝ }
+    requires { ⌜ Laid (now cells) (now laid) × (length (now cells) / 4 ≤ length (now laid)) × Octants (now cells) (now corners) (now octants) ⌝ }
     requires { ⌜ Levels (now corners) [] (now slots) ⌝ }
     requires { ⌜ (length (now wets) ≡ 4872) × (length (now carriers) ≡ 14616) × (length (now twins) ≡ 14616) ⌝ }
     ensures { λ r. ⌜ Filled (now (cells .entry)) (now (corners .entry)) clearance (now (wets .exit)) (now (slots .exit)) (now (carriers .exit))
         (now (twins .exit)) r ⌝ }
 {
     edges::fill_wets(corners, clearance, wets);
-    edges::fill_levels(cells, corners, octants, levels, slots);
+    edges::fill_levels(cells, corners, octants, laid, slots);
     let n = edges::number_slots(cells, corners, clearance, wets, slots, carriers);
     twins::fill(cells, corners, clearance, wets, slots, carriers, n, twins);
     n
@@ -196,13 +196,13 @@ fn draw_accepted(
     cells: &[u8],
     corners: &[u8],
     clearance: f32,
-    levels: &[u8],
+    laid: &[u64],
     octants: &[u16],
     points: &mut [f32],
     triangles: &mut [u32],
 ) -> Drawn
     requires { ⌜ accepted (now cells) (now corners) clearance ≡ true ⌝ }
-    requires { ⌜ CellLevels (now cells) (now levels) × Octants (now cells) (now corners) (now octants) ⌝ }
+    requires { ⌜ Laid (now cells) (now laid) × (length (now cells) / 4 ≤ length (now laid)) × Octants (now cells) (now corners) (now octants) ⌝ }
     ensures { λ r. ⌜ Draws (lent (now (cells .entry)) (now (corners .entry)) clearance (now (points .entry)) (now (triangles .entry))) r
         (now (points .exit)) (now (triangles .exit)) ⌝ }
 {
@@ -214,7 +214,7 @@ fn draw_accepted(
         cells,
         corners,
         clearance,
-        levels,
+        laid,
         octants,
         &mut wets,
         &mut slots,
@@ -224,7 +224,7 @@ fn draw_accepted(
     let mut across = [0u16; 12294];
     across::fill(cells, &mut across);
     let mut crossings = [0u16; 26637];
-    crossings::fill(cells, corners, clearance, &wets, &slots, octants, levels, &mut crossings);
+    crossings::fill(cells, corners, clearance, &wets, &slots, octants, laid, &mut crossings);
     let room = triangles.len();
     let write = 3 * n <= points.len();
     let m = draw_triangles(cells, &across, &crossings, &twins, n, write, triangles);
@@ -249,15 +249,13 @@ pub fn draw(
         (now (points .exit)) (now (triangles .exit)) ⌝ }
     ensures closes { λ r. ⌜ (r .number ≡ 0 → ClosedIn (now (cells .entry)) (now (corners .entry)) clearance r (now (points .exit)) (now (triangles .exit))) ⌝ }
 {
-    let mut keys = [0u64; 2049];
-    let mut levels = [0u8; 2049];
+    let mut laid = [0u64; 2049];
     let mut octants = [0u16; 16392];
     let number = checks::refusal(
         cells,
         corners,
         clearance,
-        &mut keys,
-        &mut levels,
+        &mut laid,
         &mut octants,
     );
     if number != 0 {
@@ -271,7 +269,7 @@ pub fn draw(
         cells,
         corners,
         clearance,
-        &levels,
+        &laid,
         &octants,
         points,
         triangles,

@@ -3,7 +3,7 @@ use Prim.Native.Nat.{_/_, _%_, _≤_}
 use mathlib.Core.Path.{_≡_}
 use native.Mathlib.Omega.{arith}
 use lib.ListN.{length, getD}
-use Rattle.cells.specs.Laid.{cellAt}
+use Rattle.cells.specs.Laid.{cellAt, levelIn}
 use Rattle.crossings.proofs.Leaves.{cells-small, corners-small}
 use Rattle.crossings.proofs.Twelve.{start-below, end-below, Between, even-crossing, odd-crossing, odd-edge}
 use borrow.Author.Needs.{needs}
@@ -42,8 +42,8 @@ module _ (c : tie.After-octant-record2) where
   abbrev s : tie.Start
   s = start (c .before .before)
 
-  abbrev level-read : getD (s .args .levels .now) (s .args .i / 12) 0 ≡ cellAt (s .args .cells .now) (s .args .i / 12) .level
-  level-read = s .pre .0 .cell-levels .level (s .args .i / 12) (omega arith)
+  abbrev level-read : levelIn (s .args .laid .now) (s .args .i / 12) ≡ cellAt (s .args .cells .now) (s .args .i / 12) .level
+  level-read = s .pre .0 .cell-levels .entered (s .args .i / 12) (omega arith) .level
 
   between : Between (s .args .cells .now) (s .args .corners .now) (s .args .i / 12) (s .args .i % 12) (c .before .octant-record .result)
       (c .octant-record2 .result)

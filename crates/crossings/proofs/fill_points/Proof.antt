@@ -12,11 +12,11 @@ use Rattle.crossings.proofs.fill_points.Statement.{statement}
 use Rattle.crossings.proofs.fill_points.Tie as tie
 
 abbrev Inv-loop : tie.InvT-loop
-Inv-loop cells corners clearance wets slots octants levels crossings₀ count i₀ crossings i =
+Inv-loop cells corners clearance wets slots octants laid crossings₀ count i₀ crossings i =
     (i ≤ count) × (length crossings ≡ length crossings₀) × PointsTo (surveyOf cells corners clearance) cells i crossings
 
 abbrev μ-loop : tie.MeasureT-loop
-μ-loop cells corners clearance wets slots octants levels crossings₀ count i₀ crossings i = count - i
+μ-loop cells corners clearance wets slots octants laid crossings₀ count i₀ crossings i = count - i
 
 abbrev start : tie.After-slice-known Inv-loop μ-loop → tie.Start Inv-loop μ-loop
 start c = c .before .before .before .before .before .before .before
