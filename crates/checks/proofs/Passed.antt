@@ -103,8 +103,8 @@ module _ (tc tk : List ℕ) (c : Checked tc tk) where
           ap (λ m. getD (placesOf tk) m origin) (sym first) ∙ sym (same→ p (getD (placesOf tk) (at .0) origin) (at .3))
 
   -- the table of what the look-ups gave holds the corners of all cells
-  pub octants-of : (keys levels t : List ℕ) → Bytes tk → Laid tc keys levels → LookedUp tk keys levels t (length tc / 4) → Octants tc tk t
-  octants-of keys levels t b laid o = record {
+  pub octants-of : (table t : List ℕ) → Bytes tk → Laid tc table → LookedUp tk table t (length tc / 4) → Octants tc tk t
+  octants-of table t b laid o = record {
     room = o .room;
     octant = λ n i h g. record {
       number = rw (is n i h g) (found n h i g b);
@@ -113,4 +113,4 @@ module _ (tc tk : List ℕ) (c : Checked tc tk) where
   }
     where
       is : (n i : ℕ) → n < length tc / 4 → i < 8 → getD t (8 * n + i) 0 ≡ recordAt tk (keyOf (corner tc n i))
-      is n i h g = o .number n i h g ∙ ap (recordAt tk) (corner-key tc keys levels n (laid .entered n h) i g)
+      is n i h g = o .number n i h g ∙ ap (recordAt tk) (corner-key tc table n (laid .entered n h) i g)

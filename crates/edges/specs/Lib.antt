@@ -1,4 +1,4 @@
 pub mod Tables
 pub mod Searching
-pub mod Enquiry
+pub mod Noting
 pub mod Numbering

@@ -2,16 +2,17 @@
 use Prim.Native.Nat.{ℕ, _≤_, _<_}
 use mathlib.Core.Path.{_≡_}
 use mathlib.Core.List.{List}
+use lib.Ieee.{Float}
 use lib.ListN.{length, getD}
-use Rattle.rules.specs.Survey.{Survey}
-use Rattle.edges.specs.Tables.{slotsBelow}
+use Rattle.rules.specs.Outputs.{surveyOf}
+use Rattle.edges.specs.Tables.{slotsBelow, numberAt, Levelled}
 
 -- what the tables hold when the slots below i have been passed, and n points were found
-pub record Numbered (s : Survey) (numbers slots : List ℕ) (n i : ℕ) : Type 0 where
+pub record NumberedBelow (tc tk : List ℕ) (clearance : Float) (slots carriers : List ℕ) (n i : ℕ) : Type 0 where
+  pub levelled : Levelled tc tk slots
+  pub room : length carriers ≡ 14616
   pub upto : i ≤ 14616
-  pub counted : n ≡ length (slotsBelow s i)
   pub few : n ≤ i
-  pub numbers-size : length numbers ≡ 14616
-  pub slots-size : length slots ≡ 14616
-  pub number : (j : ℕ) → j < i → getD numbers j 0 ≡ length (slotsBelow s j)
-  pub slot : (v : ℕ) → v < n → getD slots v 0 ≡ getD (slotsBelow s i) v 0
+  pub counted : n ≡ length (slotsBelow (surveyOf tc tk clearance) i)
+  pub number : (j : ℕ) → j < i → numberAt slots j ≡ length (slotsBelow (surveyOf tc tk clearance) j)
+  pub carrier : (v : ℕ) → v < n → getD carriers v 0 ≡ getD (slotsBelow (surveyOf tc tk clearance) i) v 0

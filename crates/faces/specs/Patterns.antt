@@ -1,4 +1,4 @@
--- The sixteen wet patterns of a face, by number: bit i says that corner i is wet.
+-- Wet marks as digits of a number in base two, and the sixteen wet patterns of a face: digit i says that corner i is wet.
 use Prim.Native.Nat.{ℕ, _+_, _*_, _/_, _%_, _^_}
 use mathlib.Core.Bool.{Bool, true, cond}
 use mathlib.Core.List.{List, [], _∷_}
@@ -6,9 +6,13 @@ use lib.Dec.{eqb, ltb}
 use Rattle.base.specs.Lists.{bit}
 use Rattle.rules.specs.Steps.{Step, stepIn}
 
+-- digit i is 1
+abbrev pub wetDigit : ℕ → ℕ → Bool
+wetDigit mask i = eqb (mask / 2 ^ i % 2) 1
+
 -- corner i, counted round the face, is wet
 abbrev pub wetBit : ℕ → ℕ → Bool
-wetBit pattern i = eqb (pattern / 2 ^ (i % 4) % 2) 1
+wetBit pattern i = wetDigit pattern (i % 4)
 
 -- the edge by which a step leaves, or 4 where there is none
 abbrev pub exit : List Step → ℕ

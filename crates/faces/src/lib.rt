@@ -1,39 +1,13 @@
-// The small faces on the sides of a leaf and the steps in them, recorded as the leaf's trace.
-// Uses records, cells, edges and trace.
+// The face steps of a leaf: small faces by going down into the cell across, and the steps in each, recorded in the leaf's trace.
+// Uses records and trace, and the tables that across and crossings describe.
 ghost use mathlib.Core.Path.{_≡_};
-ghost use mathlib.Core.Bool.{true};
-ghost use mathlib.Core.List.{map};
-ghost use Prim.Native.Nat.{_/_, _≤_, _<_};
-ghost use lib.ListN.{length};
+ghost use Prim.Native.Nat.{_+_, _*_, _/_, _≤_, _<_};
+ghost use lib.ListN.{length, getD};
 ghost use Rattle.base.specs.Lists.{bit};
-ghost use Rattle.rules.specs.Survey.{cornersOf, leafOf, wet};
-ghost use Rattle.rules.specs.Steps.{leafSteps};
-ghost use Rattle.rules.specs.Outputs.{accepted, surveyOf};
-ghost use Rattle.cells.specs.Laid.{Laid, cellAt};
-ghost use Rattle.octants.specs.Octants.{Octants};
-ghost use Rattle.trace.specs.Trace.{trace, Sized, Recorded};
-ghost use Rattle.faces.specs.Patterns.{stepFrom};
-ghost use Rattle.faces.specs.Descent.{placeWith, recordOf, Grown};
-ghost use Rattle.faces.specs.Faces.{Tables};
-use rules::Leaf;
-
-mod corners;
-mod descend;
-mod facets;
-mod patterns;
-mod recording;
-mod sides;
-
-// A face on a side of a leaf, the whole side or a part of it: the axis and the end of the side, the key of the lowest corner, and the level;
-// the record of a cell of which it is a side, and the number of its lowest corner among that cell's eight.
-pub struct Facet {
-    pub axis: u32,
-    pub upper: bool,
-    pub key: u64,
-    pub level: u8,
-    pub cell: usize,
-    pub low: usize,
-}
+ghost use Rattle.trace.specs.Trace.{recorded};
+ghost use Rattle.faces.specs.Patterns.{wetDigit, stepFrom};
+ghost use Rattle.faces.specs.Faces.{rowCorner, rowEdge, rowPattern, edgeSteps, rowSteps, quarters, smallTableSteps, sideTableSteps};
+ghost use Rattle.faces.specs.Faces.{leafTableSteps, Fits, Roomy, Reaching};
 
 // For each of the sixteen wet patterns of a face (bit i: corner i is wet; corners go counter-clockwise, seen from outside the leaf), the edge to
 // which the step that enters by edge i goes; 4 where none enters. Edge i joins corner i and corner i + 1.
@@ -56,6 +30,41 @@ const STEPS: [[u8; 4]; 16] = [
     [4, 4, 4, 4],
 ];
 
+// The corners of a row, as numbers among the eight of its cell: rows 0 to 5 are a leaf's own sides, rows 6 to 11 the sides towards it of the cells across.
+const CORNERS: [[u8; 4]; 12] = [
+    [1, 3, 7, 5],
+    [0, 4, 6, 2],
+    [2, 6, 7, 3],
+    [0, 1, 5, 4],
+    [4, 5, 7, 6],
+    [0, 2, 3, 1],
+    [0, 2, 6, 4],
+    [1, 5, 7, 3],
+    [0, 4, 5, 1],
+    [2, 3, 7, 6],
+    [0, 1, 3, 2],
+    [4, 6, 7, 5],
+];
+
+// The edges of a row, as numbers among the twelve of its cell.
+const EDGES: [[u8; 4]; 12] = [
+    [6, 11, 7, 9],
+    [8, 5, 10, 4],
+    [10, 3, 11, 1],
+    [0, 9, 2, 8],
+    [2, 7, 3, 5],
+    [4, 1, 6, 0],
+    [4, 10, 5, 8],
+    [9, 7, 11, 6],
+    [8, 2, 9, 0],
+    [1, 11, 3, 10],
+    [0, 6, 1, 4],
+    [5, 3, 7, 2],
+];
+
+// The corners at the quarters of a face, in the order of small faces.
+const QUARTERS: [usize; 4] = [0, 1, 3, 2];
+
 // The edge to which the step that enters by edge `edge` goes in a pattern, or 4.
 pub fn step_from(pattern: usize, edge: usize) -> u8
     requires { ⌜ (pattern < 16) × (edge < 4) ⌝ }
@@ -64,103 +73,142 @@ pub fn step_from(pattern: usize, edge: usize) -> u8
     STEPS[pattern][edge]
 }
 
-// The record of the cell of a level at the place with a key; the number of records where there is none.
-pub fn record_of(cells: &[u8], level: u8, key: u64) -> usize
-    requires { ⌜ Grown (now cells) ⌝ }
-    requires { ⌜ level ≤ 10 ⌝ }
-    ensures { λ r. ⌜ r ≡ recordOf (now (cells .entry)) level (placeWith key) ⌝ }
+// A byte as an index.
+fn wide(x: u8) -> usize
+    ensures { λ r. ⌜ r ≡ x ⌝ }
 {
-    if descend::is_outside(key) {
-        return cells.len() / 4;
+    x as usize
+}
+
+// The number of corner j of a row.
+fn row_corner(row: usize, j: usize) -> usize
+    requires { ⌜ (row < 12) × (j < 4) ⌝ }
+    ensures { λ r. ⌜ (r ≡ rowCorner row j) × (r < 8) ⌝ }
+{
+    wide(CORNERS[row][j])
+}
+
+// The number of edge j of a row.
+fn row_edge(row: usize, j: usize) -> usize
+    requires { ⌜ (row < 12) × (j < 4) ⌝ }
+    ensures { λ r. ⌜ (r ≡ rowEdge row j) × (r < 12) ⌝ }
+{
+    wide(EDGES[row][j])
+}
+
+// The corner of a face at which quarter i is.
+fn quarter(i: usize) -> usize
+    requires { ⌜ i < 4 ⌝ }
+    ensures { λ r. ⌜ (r ≡ getD quarters i 0) × (r < 4) ⌝ }
+{
+    QUARTERS[i]
+}
+
+// 1 if corner j of a row is wet by the mask of its cell's wet corners, else 0.
+fn row_mark(mask: u16, row: usize, j: usize) -> usize
+    requires { ⌜ (row < 12) × (j < 4) ⌝ }
+    ensures { λ r. ⌜ (r ≡ bit (wetDigit mask (rowCorner row j))) × (r ≤ 1) ⌝ }
+{
+    (trace::wide(mask) >> row_corner(row, j)) % 2
+}
+
+// The wet pattern of a row of record m.
+fn row_pattern(crossings: &[u16], row: usize, m: usize) -> usize
+    requires { ⌜ (row < 12) × (13 * m + 13 ≤ length (now crossings)) ⌝ }
+    ensures { λ r. ⌜ (r ≡ rowPattern (now (crossings .entry)) row m) × (r < 16) ⌝ }
+{
+    let mask = crossings[13 * m + 12];
+    row_mark(mask, row, 0)
+        + 2 * row_mark(mask, row, 1)
+        + 4 * row_mark(mask, row, 2)
+        + 8 * row_mark(mask, row, 3)
+}
+
+// Records the step, if there is one, that enters a row of record m by edge j.
+fn edge_step(crossings: &[u16], trace: &mut [u16], row: usize, m: usize, pattern: usize, j: usize)
+    requires { ⌜ (row < 12) × (13 * m + 13 ≤ length (now crossings)) ⌝ }
+    requires { ⌜ (pattern < 16) × (j < 4) ⌝ }
+    requires { ⌜ Fits (edgeSteps (now crossings) row m pattern j) (length (now trace)) ⌝ }
+    ensures { λ _. ⌜ now (trace .exit) ≡ recorded (edgeSteps (now (crossings .entry)) row m pattern j) (now (trace .entry)) ⌝ }
+{
+    let k = wide(step_from(pattern, j));
+    if k >= 4 {
+        return;
     }
-    descend::go_down(cells, level, key)
+    let from = crossings[13 * m + row_edge(row, j)];
+    let to = crossings[13 * m + row_edge(row, k)];
+    trace::record_step(trace, from, to);
 }
 
-// Takes up the leaf of record `n` with its eight corners side by side.
-pub fn leaf_at(cells: &[u8], corners: &[u8], clearance: f32, octants: &[u16], n: usize) -> Leaf
-    requires { ⌜ accepted (now cells) (now corners) clearance ≡ true ⌝ }
-    requires { ⌜ Octants (now cells) (now corners) (now octants) ⌝ }
-    requires { ⌜ n < length (now cells) / 4 ⌝ }
-    ensures { λ r. ⌜ r ≡ leafOf (cornersOf (now (corners .entry))) (cellAt (now (cells .entry)) n) ⌝ }
+// Records the steps in a row of record m, edge after edge.
+fn row_steps(crossings: &[u16], trace: &mut [u16], row: usize, m: usize)
+    requires { ⌜ (row < 12) × (13 * m + 13 ≤ length (now crossings)) ⌝ }
+    requires { ⌜ Fits (rowSteps (now crossings) row m) (length (now trace)) ⌝ }
+    ensures { λ _. ⌜ now (trace .exit) ≡ recorded (rowSteps (now (crossings .entry)) row m) (now (trace .entry)) ⌝ }
 {
-    Leaf {
-        corners: [
-            corners::octant_corner(cells, corners, clearance, octants, n, 0),
-            corners::octant_corner(cells, corners, clearance, octants, n, 1),
-            corners::octant_corner(cells, corners, clearance, octants, n, 2),
-            corners::octant_corner(cells, corners, clearance, octants, n, 3),
-            corners::octant_corner(cells, corners, clearance, octants, n, 4),
-            corners::octant_corner(cells, corners, clearance, octants, n, 5),
-            corners::octant_corner(cells, corners, clearance, octants, n, 6),
-            corners::octant_corner(cells, corners, clearance, octants, n, 7),
-        ],
+    let pattern = row_pattern(crossings, row, m);
+    let mut j: usize = 0;
+    while j < 4 {
+        edge_step(crossings, trace, row, m, pattern, j);
+        j += 1;
     }
 }
 
-// The wet marks of a leaf's eight corners.
-pub fn leaf_marks(leaf: Leaf, clearance: f32) -> [u8; 8]
-    requires { ⌜ length (leaf .corners) ≡ 8 ⌝ }
-    ensures { λ r. ⌜ r ≡ map (λ c. bit (wet clearance c)) (leaf .corners) ⌝ }
+// Records the steps in the small faces of a row of record m: where it is split, quarter after quarter.
+fn small_steps(cells: &[u8], crossings: &[u16], trace: &mut [u16], row: usize, m: usize)
+    requires { ⌜ Roomy (now cells) (now crossings) ⌝ }
+    requires { ⌜ (row < 12) × (m < length (now cells) / 4) ⌝ }
+    requires { ⌜ Fits (smallTableSteps (now cells) (now crossings) row m) (length (now trace)) ⌝ }
+    ensures { λ _. ⌜ now (trace .exit) ≡ recorded (smallTableSteps (now (cells .entry)) (now (crossings .entry)) row m) (now (trace .entry)) ⌝ }
 {
-    [
-        corners::mark(leaf.corners[0], clearance),
-        corners::mark(leaf.corners[1], clearance),
-        corners::mark(leaf.corners[2], clearance),
-        corners::mark(leaf.corners[3], clearance),
-        corners::mark(leaf.corners[4], clearance),
-        corners::mark(leaf.corners[5], clearance),
-        corners::mark(leaf.corners[6], clearance),
-        corners::mark(leaf.corners[7], clearance),
-    ]
+    let first = records::cell_entry(cells, m) as usize;
+    if first == 0 {
+        row_steps(crossings, trace, row, m);
+        return;
+    }
+    let mut i: usize = 0;
+    while i < 4 {
+        let child = first + row_corner(row, quarter(i));
+        small_steps(cells, crossings, trace, row, child);
+        i += 1;
+    }
 }
 
-// Records the face steps of the leaf of record `n`, side after side.
-pub fn leaf_steps(
+// Records the steps on side i of the leaf of record n: in the small faces of the split cell across, or in its own side.
+fn side_steps(
     cells: &[u8],
-    corners: &[u8],
-    clearance: f32,
-    wets: &[u8],
-    lowest: &[u8],
-    far: &[u16],
-    numbers: &[u16],
-    keys: &[u64],
-    levels: &[u8],
-    octants: &[u16],
-    nexts: &mut [u16],
-    marks: &mut [u8],
-    blocks: &mut [u8],
+    across: &[u16],
+    crossings: &[u16],
+    trace: &mut [u16],
     n: usize,
+    i: usize,
 )
-    requires { ⌜ Tables (now cells) (now corners) clearance (now wets) (now lowest) (now far) (now numbers) (now octants) ⌝ }
-    requires { ⌜ Sized (trace (now nexts) (now marks) (now blocks)) ⌝ }
-    requires { ⌜ Laid (now cells) (now keys) (now levels) ⌝ }
-    requires { ⌜ (n < length (now cells) / 4) × (n < length (now keys)) × (n < length (now levels)) ⌝ }
-    ensures { λ _. ⌜ Recorded (leafSteps (surveyOf (now (cells .entry)) (now (corners .entry)) clearance) (cellAt (now (cells .entry)) n))
-        (trace (now (nexts .entry)) (now (marks .entry)) (now (blocks .entry))) (trace (now (nexts .exit)) (now (marks .exit)) (now (blocks .exit))) ⌝ }
+    requires { ⌜ Roomy (now cells) (now crossings) ⌝ }
+    requires { ⌜ Reaching (now cells) (now across) n ⌝ }
+    requires { ⌜ i < 6 ⌝ }
+    requires { ⌜ Fits (sideTableSteps (now cells) (now across) (now crossings) n i) (length (now trace)) ⌝ }
+    ensures { λ _. ⌜ now (trace .exit)
+        ≡ recorded (sideTableSteps (now (cells .entry)) (now (across .entry)) (now (crossings .entry)) n i) (now (trace .entry)) ⌝ }
 {
-    let key = keys[n];
-    let level = levels[n];
-    let wet = leaf_marks(leaf_at(cells, corners, clearance, octants, n), clearance);
-    let mut i: u32 = 0;
+    let beyond = trace::wide(across[6 * n + i]);
+    if beyond == 0 {
+        row_steps(crossings, trace, i, n);
+        return;
+    }
+    small_steps(cells, crossings, trace, 6 + i, beyond);
+}
+
+// Records the face steps of the leaf of record n, side after side.
+pub fn leaf_steps(cells: &[u8], across: &[u16], crossings: &[u16], trace: &mut [u16], n: usize)
+    requires { ⌜ Roomy (now cells) (now crossings) ⌝ }
+    requires { ⌜ Reaching (now cells) (now across) n ⌝ }
+    requires { ⌜ Fits (leafTableSteps (now cells) (now across) (now crossings) n) (length (now trace)) ⌝ }
+    ensures { λ _. ⌜ now (trace .exit)
+        ≡ recorded (leafTableSteps (now (cells .entry)) (now (across .entry)) (now (crossings .entry)) n) (now (trace .entry)) ⌝ }
+{
+    let mut i: usize = 0;
     while i < 6 {
-        recording::side_steps(
-            cells,
-            corners,
-            clearance,
-            wets,
-            lowest,
-            far,
-            numbers,
-            octants,
-            nexts,
-            marks,
-            blocks,
-            n,
-            key,
-            level,
-            wet,
-            i,
-        );
+        side_steps(cells, across, crossings, trace, n, i);
         i += 1;
     }
 }

@@ -8,6 +8,8 @@ ghost use Rattle.rules.specs.Outputs.{rising};
 ghost use Rattle.records.specs.Keys.{keyOf, placesOf, recordAt};
 ghost use Rattle.reader.specs.Ordered.{Ordered};
 
+pub mod hints;
+
 // The lent bytes of a corner table and the number of its records.
 pub struct Reader<'a> {
     pub bytes: &'a [u8],

@@ -31,17 +31,15 @@ slice-aggregate-draw-accepted c = search needs
 slice-aggregate-draw-accepted-2 : tie.Need-slice-aggregate-draw-accepted-2
 slice-aggregate-draw-accepted-2 c = search needs
 
-slice-aggregate-draw-accepted-3 : tie.Need-slice-aggregate-draw-accepted-3
-slice-aggregate-draw-accepted-3 c = search needs
-
 draw-accepted-requires : tie.Need-draw-accepted-requires
 draw-accepted-requires c κs =
-    let r = c .before .before .before .before .before .before .before .before .before in
+    let r = c .before .before .before .before .before .before .before .before in
     let a = r .before .before .before .before .before .before .before .before .args in
-    let zero = c .before .before .before .before .before .if1 .left in
+    let zero = c .before .before .before .before .if1 .left in
     let ok = passes (a .cells .now) (a .corners .now) (a .clearance) (a .points .now) (a .triangles .now) (r .refusal .result) (r .refusal .ensures .0) zero in
     let few = few-records (a .cells .now) (a .corners .now) (a .clearance) ok in
-    (ok, ((r .refusal .ensures .1 .0 zero, r .refusal .ensures .1 .1 zero), (search (needs, few), search (needs, few))))
+    let laid = r .refusal .ensures .1 .0 zero in
+    (ok, (record { room = search (needs, few); level = λ n h. laid .entered n h .level }, r .refusal .ensures .1 .1 zero))
 
 same-length : tie.Need-same-length
 same-length c = search needs
@@ -52,7 +50,7 @@ same-length-2 c = search needs
 -- accepted
 returns-2 : tie.Need-returns-2
 returns-2 c =
-    let a = c .before .before .before .before .before .before .before .before .before .before .before .before .before .before .before .before .before .before .before .before .before .before .args in
+    let a = c .before .before .before .before .before .before .before .before .before .before .before .before .before .before .before .before .before .before .before .before .before .args in
     let d = c .before .before .before .before .draw-accepted .ensures in
     (d, drawn-closed (a .cells .now) (a .corners .now) (a .clearance) (a .points .now) (a .triangles .now) _ _ _ d)
 
@@ -67,7 +65,6 @@ draw-spec =
     returns
     slice-aggregate-draw-accepted
     slice-aggregate-draw-accepted-2
-    slice-aggregate-draw-accepted-3
     draw-accepted-requires
     same-length
     same-length-2

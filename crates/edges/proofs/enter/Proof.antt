@@ -5,14 +5,14 @@ use borrow.Author.Needs.{needs}
 use Rattle.edges.proofs.enter.Statement.{statement}
 use Rattle.edges.proofs.enter.Tie as tie
 
-cast-slots : tie.Need-cast-slots
-cast-slots c = search needs
+cast-carriers : tie.Need-cast-carriers
+cast-carriers c = search needs
 
-mul-slots : tie.Need-mul-slots
-mul-slots c = search needs
+mul-carriers : tie.Need-mul-carriers
+mul-carriers c = search needs
 
-slice-write-slots : tie.Need-slice-write-slots
-slice-write-slots c = search needs
+slice-write-carriers : tie.Need-slice-write-carriers
+slice-write-carriers c = search needs
 
 add-result : tie.Need-add-result
 add-result c = search needs
@@ -31,4 +31,4 @@ returns-2 c =
 pub enter-spec : {M : Type 1} → statement M
 enter-spec =
     tie.close
-    (tie.spec cast-slots mul-slots slice-write-slots add-result same-length returns returns-2)
+    (tie.spec cast-carriers mul-carriers slice-write-carriers add-result same-length returns returns-2)

@@ -13,20 +13,20 @@ use Rattle.checks.proofs.Passed.{few-cells, few-corners, places-rise}
 use Rattle.octants.specs.Octants.{Octant}
 use Rattle.edges.specs.Tables.{cellEdges, edgesOf, Levels}
 use Rattle.edges.proofs.Notes.{starts, ends, start-below, end-below, start-octant, end-octant, note-next, levels-same, edges-from}
-use Rattle.edges.proofs.Surveyed.{record-inside}
+use Rattle.edges.proofs.Surveyed.{record-inside, cell-shallow}
 use borrow.Author.Needs.{needs}
 use Rattle.edges.proofs.noting.note_cell.Statement.{statement}
 use Rattle.edges.proofs.noting.note_cell.Tie as tie
 
 abbrev Inv-loop : tie.InvT-loop
-Inv-loop cells corners octants lowest₀ highest₀ far₀ n level e₀ lowest highest far e =
-    (e ≤ 12) × Levels corners (drop e (cellEdges (cellAt cells n)) ++ edgesOf (drop (n + 1) (cellsOf cells))) lowest highest far
+Inv-loop cells corners octants slots₀ n level e₀ slots e =
+    (e ≤ 12) × Levels corners (drop e (cellEdges (cellAt cells n)) ++ edgesOf (drop (n + 1) (cellsOf cells))) slots
 
 abbrev μ-loop : tie.MeasureT-loop
-μ-loop cells corners octants lowest₀ highest₀ far₀ n level e₀ lowest highest far e = e
+μ-loop cells corners octants slots₀ n level e₀ slots e = e
 
 abbrev start : tie.At-loop Inv-loop μ-loop → tie.Start Inv-loop μ-loop
-start l = l .before .before .before .before .before .before .before
+start l = l .before .before .before .before .before
 
 abbrev at-start : tie.In-loop Inv-loop μ-loop → tie.Start Inv-loop μ-loop
 at-start c = start (c .before)
@@ -53,6 +53,12 @@ module _ (c : tie.In-loop Inv-loop μ-loop) where
   corners-few : length (at-start c .args .corners .now) / 10 ≤ 4872
   corners-few = few-corners (s .args .cells .now) (s .args .corners .now) (checked (s .args .cells .now) (s .args .corners .now) (s .pre .0))
 
+  shallow : cellAt (at-start c .args .cells .now) (at-start c .args .n) .level ≤ 10
+  shallow = cell-shallow (s .args .cells .now) (s .args .corners .now) (s .pre .0) (s .args .n) (s .pre .1 .1 .0 .0)
+
+  level-few : at-start c .args .level ≤ 10
+  level-few = omega (arith, shallow, s .pre .1 .1 .0 .1)
+
   begins : (getD starts (edge-at c) 0 < 8) ×
       Octant (at-start c .args .cells .now) (at-start c .args .corners .now) (at-start c .args .n) (getD starts (edge-at c) 0)
       (getD (at-start c .args .octants .now) (8 * at-start c .args .n + getD starts (edge-at c) 0) 0)
@@ -70,7 +76,7 @@ module _ (c : tie.In-loop Inv-loop μ-loop) where
       (end-below _ _ _ o _ h (edge-at c) edge-few, end-octant _ _ _ o _ h (edge-at c) edge-few)
 
 loop-holds : tie.Need-loop-holds Inv-loop μ-loop
-loop-holds c = (omega arith, c .before .before .before .before .before .before .pre .1 .1 .1)
+loop-holds c = (omega arith, c .before .before .before .before .pre .1 .1 .1)
 
 sub-e : tie.Need-sub-e Inv-loop μ-loop
 sub-e c = search needs
@@ -121,48 +127,37 @@ mul-note-edge c = search needs
 
 add-note-edge : tie.Need-add-note-edge Inv-loop μ-loop
 add-note-edge c =
-    let t = c .before .before .before .before .before in
+    let t = c .before .before .before in
     omega (arith, edge-few t, begins t .1 .number, corners-few t)
 
 note-edge-requires : tie.Need-note-edge-requires Inv-loop μ-loop
 note-edge-requires c κs =
-    let t = c .before .before .before .before .before in
-    let v = t .before .loop .inv .1 in (
-      omega (arith, edge-few t, begins t .1 .number, corners-few t, v .low .size),
-      omega (arith, edge-few t, begins t .1 .number, corners-few t, v .high .size),
-      omega (arith, edge-few t, begins t .1 .number, corners-few t, v .ends .size),
-    )
+    let t = c .before .before .before in
+    (t .before .loop .inv .1 .size, omega (arith, edge-few t, begins t .1 .number, corners-few t), level-few t)
 
 loop-less : tie.Need-loop-less Inv-loop μ-loop
 loop-less c = search needs
 
 loop-again : tie.Need-loop-again Inv-loop μ-loop
 loop-again c =
-    let noted = c .before .before .before .before .before .before in
-    let t = noted .before .before .before .before .before .before in
+    let noted = c .before .before in
+    let t = noted .before .before .before .before in
     let l = t .before in
     let s = start l in
     let tc = s .args .cells .now in
     let tk = s .args .corners .now in
     let law = checked tc tk (s .pre .0) in
     let q : l .loop .e ≡ edge-at t + 1 = omega arith in
-    let before = levels-same tk _ _ _ _ _ (ap (λ i. drop i (cellEdges (cellAt tc (s .args .n))) ++ edgesOf (drop (s .args .n + 1) (cellsOf tc))) q)
+    let before = levels-same tk _ _ _ (ap (λ i. drop i (cellEdges (cellAt tc (s .args .n))) ++ edgesOf (drop (s .args .n + 1) (cellsOf tc))) q)
     (l .loop .inv .1) in (
       omega arith,
       note-next tc tk (s .args .octants .now) (s .pre .1 .0) (s .args .n) (s .pre .1 .1 .0 .0) (edge-at t) (edge-few t)
-          (l .before .before .before .before .before .shared-slice-known2 .given) (places-rise tc tk law) (few-corners tc tk law)
-          (edgesOf (drop (s .args .n + 1) (cellsOf tc))) _ _ _ before (s .args .level) _ (s .pre .1 .1 .0 .1) refl _ _ _
-          (noted .note-edge .ensures .0) (noted .note-edge .ensures .1 .0) (noted .note-edge .ensures .1 .1),
+          (l .before .before .before .shared-slice-known2 .given) (places-rise tc tk law) (few-corners tc tk law) (shallow t)
+          (edgesOf (drop (s .args .n + 1) (cellsOf tc))) _ before (s .args .level) _ (s .pre .1 .1 .0 .1) refl _ (noted .note-edge .ensures),
     )
 
 same-length : tie.Need-same-length Inv-loop μ-loop
-same-length c = c .before .loop .inv .1 .low .size ∙ sym (start (c .before) .pre .1 .1 .1 .low .size)
-
-same-length-2 : tie.Need-same-length-2 Inv-loop μ-loop
-same-length-2 c = c .before .loop .inv .1 .high .size ∙ sym (start (c .before) .pre .1 .1 .1 .high .size)
-
-same-length-3 : tie.Need-same-length-3 Inv-loop μ-loop
-same-length-3 c = c .before .loop .inv .1 .ends .size ∙ sym (start (c .before) .pre .1 .1 .1 .ends .size)
+same-length c = c .before .loop .inv .1 .size ∙ sym (start (c .before) .pre .1 .1 .1 .size)
 
 returns : tie.Need-returns Inv-loop μ-loop
 returns c =
@@ -171,7 +166,7 @@ returns c =
     let z : c .before .loop .e ≡ 0 = omega arith in
     let e = edges-from (cellsOf tc) (cell origin 10 false) (s .args .n) (record-inside tc (s .args .corners .now) (s .pre .0) (s .args .n)
     (s .pre .1 .1 .0 .0)) in
-    levels-same (s .args .corners .now) _ _ _ _ _
+    levels-same (s .args .corners .now) _ _ _
     (ap (λ i. drop i (cellEdges (cellAt tc (s .args .n))) ++ edgesOf (drop (s .args .n + 1) (cellsOf tc))) z ∙ sym e) (c .before .loop .inv .1)
 
 pub note-cell-spec : {M : Type 1} → statement M
@@ -201,6 +196,4 @@ note-cell-spec =
     loop-less
     loop-again
     same-length
-    same-length-2
-    same-length-3
     returns)

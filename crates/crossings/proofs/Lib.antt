@@ -1,0 +1,4 @@
+pub mod Leaves
+pub mod Twelve
+pub mod Filling
+pub mod Points
