@@ -2,6 +2,7 @@ pub mod Starts
 pub mod Levels
 pub mod Points
 pub mod Find
+pub mod CellEdges
 pub mod Entries
 pub mod Notes
 pub mod Surveyed

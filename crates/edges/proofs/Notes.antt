@@ -21,12 +21,13 @@ use Rattle.records.specs.Keys.{placesOf}
 use Rattle.records.proofs.Keys.{Bytes}
 use Rattle.cells.specs.Laid.{cellAt}
 use Rattle.octants.specs.Octants.{Octant, Octants}
-use Rattle.edges.specs.Tables.{cellEdges, edgesOf, startsAt, lowestIn, highestIn, placeAt, lowestAt, highestAt, farAt}
+use Rattle.edges.specs.Tables.{cellEdges, starts, ends, edgesOf, startsAt, lowestIn, highestIn, placeAt, lowestAt, highestAt, farAt}
 use Rattle.edges.specs.Tables.{Tabled, UpperEnd, FarEnds, Levels}
 use Rattle.edges.specs.Noting.{withEdge}
 use Rattle.edges.proofs.Entries.{edge-size, edge-low, edge-high, edge-far, edge-low-other, edge-high-other, edge-far-other}
 use Rattle.edges.proofs.Starts.{→start}
 use Rattle.edges.proofs.Find.{one-record}
+use Rattle.edges.proofs.CellEdges.{start-below, end-below, starting, ending}
 
 axis-number : (n m : ℕ) → n < 3 → m < 3 → axisNumber (axisOf n) ≡ axisNumber (axisOf m) → n ≡ m
 axis-number zero zero g h e = refl
@@ -169,83 +170,18 @@ none-noted tk w e few = record {
 
 -- ---- the twelve edges of a cell
 
--- the corners of a cell at which they start and end
-abbrev pub starts : List ℕ
-starts = 0 ∷ 2 ∷ 4 ∷ 6 ∷ 0 ∷ 4 ∷ 1 ∷ 5 ∷ 0 ∷ 1 ∷ 2 ∷ 3 ∷ []
-
-abbrev pub ends : List ℕ
-ends = 1 ∷ 3 ∷ 5 ∷ 7 ∷ 2 ∷ 6 ∷ 3 ∷ 7 ∷ 4 ∷ 5 ∷ 6 ∷ 7 ∷ []
-
--- a statement holds of the numbers below n
-abbrev Below : ℕ → (ℕ → Type 0) → Type 0
-Below zero f = Unit {0}
-Below (suc n) f = f 0 × Below n (λ i. f (suc i))
-
-below-at : (n : ℕ) (f : ℕ → Type 0) → Below n f → (i : ℕ) → i < n → f i
-below-at zero f b i h = absurd (omega arith)
-below-at (suc n) f b zero h = b .0
-below-at (suc n) f b (suc i) h = below-at n (λ j. f (suc j)) (b .1) i (omega arith)
-
-module _ (c : Cell) where
-  abbrev corner : ℕ → Place
-  corner i = getD (octants (size c) (c .low)) i origin
-
-  -- edge e is on axis e / 4, from its start to its end
-  abbrev Placed : ℕ → Type 0
-  Placed e =
-      T (ltb (getD starts e 0) 8) × T (ltb (getD ends e 0) 8) ×
-      (getD (cellEdges c) e (edge X origin 0) ≡ edge (axisOf (e / 4)) (corner (getD starts e 0)) (c .level)) ×
-      (corner (getD ends e 0) ≡ move (axisOf (e / 4)) (size c) (corner (getD starts e 0)))
-
-  placed : (e : ℕ) → e < 12 → Placed e
-  placed =
-      below-at 12 Placed (
-        (tt, tt, refl, refl),
-        (
-          (tt, tt, refl, refl),
-          (
-            (tt, tt, refl, refl),
-            (
-              (tt, tt, refl, refl),
-              (
-                (tt, tt, refl, refl),
-                (
-                  (tt, tt, refl, refl),
-                  (
-                    (tt, tt, refl, refl),
-                    (
-                      (tt, tt, refl, refl),
-                      (
-                        (tt, tt, refl, refl),
-                        ((tt, tt, refl, refl), ((tt, tt, refl, refl), ((tt, tt, refl, refl), tt))),
-                      ),
-                    ),
-                  ),
-                ),
-              ),
-            ),
-          ),
-        ),
-      )
-
 module _ (tc tk t : List ℕ) (o : Octants tc tk t) (n : ℕ) (h : n < length tc / 4) (e : ℕ) (g : e < 12) where
-  pub start-below : getD starts e 0 < 8
-  start-below = ltb→lt (getD starts e 0) 8 (placed (cellAt tc n) e g .0)
-
-  pub end-below : getD ends e 0 < 8
-  end-below = ltb→lt (getD ends e 0) 8 (placed (cellAt tc n) e g .1)
-
   pub start-octant : Octant tc tk n (getD starts e 0) (getD t (8 * n + getD starts e 0) 0)
-  start-octant = o .octant n (getD starts e 0) h start-below
+  start-octant = o .octant n (getD starts e 0) h (start-below e g)
 
   pub end-octant : Octant tc tk n (getD ends e 0) (getD t (8 * n + getD ends e 0) 0)
-  end-octant = o .octant n (getD ends e 0) h end-below
+  end-octant = o .octant n (getD ends e 0) h (end-below e g)
 
   upper-end : UpperEnd tk (axisOf (e / 4)) (getD t (8 * n + getD starts e 0) 0) (cellAt tc n .level) (getD t (8 * n + getD ends e 0) 0)
   upper-end = record {
     inside = end-octant .number;
     place =
-        end-octant .place ∙ placed (cellAt tc n) e g .3 ∙
+        end-octant .place ∙ ending e g (cellAt tc n) ∙
         ap (move (axisOf (e / 4)) (size (cellAt tc n))) (sym (start-octant .place));
   }
 
@@ -253,7 +189,7 @@ module _ (tc tk t : List ℕ) (o : Octants tc tk t) (n : ℕ) (h : n < length tc
       drop e (cellEdges (cellAt tc n))
   edge-is =
       ap (λ p. edge (axisOf (e / 4)) p (cellAt tc n .level) ∷ drop (e + 1) (cellEdges (cellAt tc n))) (start-octant .place) ∙
-      ap (λ d. d ∷ drop (e + 1) (cellEdges (cellAt tc n))) (sym (placed (cellAt tc n) e g .2)) ∙
+      ap (λ d. d ∷ drop (e + 1) (cellEdges (cellAt tc n))) (sym (starting e g (cellAt tc n))) ∙
       sym (rest (cellEdges (cellAt tc n)) e (edge X origin 0) g)
 
   -- edge e of the cell of record n is noted, after those behind it

@@ -1,10 +1,12 @@
 -- One pass over the slots: each slot's number is how many crossed ones come before it, and each point's slot is entered as it comes.
-use Prim.Native.Nat.{ℕ, suc, _+_, _*_, _≤_, _<_}
+use Prim.Native.Nat.{ℕ, zero, suc, _+_, _*_, _≤_, _<_}
+use native.Mathlib.Nat.{add-zero}
 use mathlib.Core.Path.{_≡_, refl, sym, ap, _∙_, subst}
 use mathlib.Core.Bool.{Bool, true, false, cond}
 use mathlib.Core.List.{List, [], _∷_, _++_, append-nil}
 use native.Mathlib.Decide.{ℕ-discrete}
 use native.Mathlib.Omega.{arith}
+use lib.Dec.{T}
 use lib.Ieee.{Float}
 use lib.ListN.{length, getD, set, length-set, length-append, List·getD-append}
 use lib.Seq.{getD-set-same, getD-set-other, getD-at}
@@ -57,13 +59,13 @@ levelled-still tc tk slots i n v = record {
 }
 
 -- the entry of a slot past the first i is free
-more-numbers : (f : ℕ → ℕ) (slots : List ℕ) → length slots ≡ 43848 → (i n : ℕ) → i < 14616 → ((j : ℕ) → j < i → numberAt slots j ≡ f j) → n ≡ f i →
-    (j : ℕ) → j < i + 1 → numberAt (withNumber slots i n) j ≡ f j
-more-numbers f slots size i n h g e j l = go (ℕ-discrete j i)
+more-numbers : (f : ℕ → ℕ) (has : ℕ → Type 0) (slots : List ℕ) → length slots ≡ 43848 → (i n : ℕ) → i < 14616 →
+    ((j : ℕ) → j < i → has j → numberAt slots j ≡ f j) → n ≡ f i → (j : ℕ) → j < i + 1 → has j → numberAt (withNumber slots i n) j ≡ f j
+more-numbers f has slots size i n h g e j l t = go (ℕ-discrete j i)
   where
     go : Dec (j ≡ i) → numberAt (withNumber slots i n) j ≡ f j
     go (yes q) = rw q (number-here slots size i n h ∙ e)
-    go (no q) = number-other slots size i n j q ∙ g j (omega arith)
+    go (no q) = number-other slots size i n j q ∙ g j (omega arith) t
 
 module _ (tc tk : List ℕ) (clearance : Float) where
   abbrev s : Survey
@@ -77,22 +79,19 @@ module _ (tc tk : List ℕ) (clearance : Float) where
     upto = omega arith;
     few = omega arith;
     counted = refl;
-    number = λ j k. absurd (omega arith);
+    number = λ j k t. absurd (omega arith);
     carrier = λ v k. absurd (omega arith);
   }
 
   -- one more slot: b says whether it is crossed
   module _ (slots carriers : List ℕ) (n i : ℕ) (was : NumberedBelow tc tk clearance slots carriers n i) (h : i < 14616) where
-    next-below : (b : Bool) → slotsBelow s (i + 1) ≡ slotsBelow s i ++ cond b (i ∷ []) [] → (r : ℕ) → r ≡ n + bit b → (after : List ℕ) →
-        after ≡ cond b (set carriers n i) carriers →
-        (r ≡ length (slotsBelow s (i + 1))) × (length after ≡ 14616) × ((v : ℕ) → v < r → getD after v 0 ≡ getD (slotsBelow s (i + 1)) v 0)
-    next-below true e r q after f =
-        let c = was .counted in
-        let w = was .few in
-        let z = was .room in (
+    -- the points found, and the slot entered behind them, which counts where it is crossed
+    next-below : (b : Bool) → slotsBelow s (i + 1) ≡ slotsBelow s i ++ cond b (i ∷ []) [] → (r : ℕ) → r ≡ n + bit b →
+        (r ≡ length (slotsBelow s (i + 1))) × ((v : ℕ) → v < r → getD (set carriers n i) v 0 ≡ getD (slotsBelow s (i + 1)) v 0)
+    next-below true e r q =
+        let c = was .counted in (
           rw e (q ∙ (omega (arith, length-append (slotsBelow s i) (i ∷ [])))),
-          rw f (length-set carriers n i ∙ z),
-          λ v k. rw (f, e) (go v (omega arith) (ℕ-discrete v n)),
+          λ v k. rw e (go v (omega arith) (ℕ-discrete v n)),
         )
       where
         go : (v : ℕ) → v < n + 1 → Dec (v ≡ n) → getD (set carriers n i) v 0 ≡ getD (slotsBelow s i ++ i ∷ []) v 0
@@ -103,33 +102,59 @@ module _ (tc tk : List ℕ) (clearance : Float) where
         go v k (no p) =
             let c = was .counted in
             getD-set-other carriers n v i 0 p ∙ was .carrier v (omega arith) ∙ sym (List·getD-append (slotsBelow s i) (i ∷ []) 0 v (omega arith))
-    next-below false e r q after f =
+    next-below false e r q =
         let d : slotsBelow s (i + 1) ≡ slotsBelow s i = e ∙ append-nil (slotsBelow s i) in
         let c = was .counted in (
           rw d (omega arith),
-          rw f (was .room),
-          λ v k. rw (f, d) (was .carrier v (omega arith)),
+          λ v k. rw d (getD-set-other carriers n v i 0 (λ p. omega arith) ∙ was .carrier v (omega arith)),
         )
 
     pub number-next : (b : Bool) → b ≡ crossedSlot (surveyOf tc tk clearance) i → (r : ℕ) → r ≡ n + bit b → (slots' carriers' : List ℕ) →
-        slots' ≡ withNumber slots i n → carriers' ≡ cond b (set carriers n i) carriers → NumberedBelow tc tk clearance slots' carriers' r (i + 1)
+        slots' ≡ withNumber slots i n → carriers' ≡ set carriers n i → NumberedBelow tc tk clearance slots' carriers' r (i + 1)
     number-next b e r q slots' carriers' x f =
-        let t = next-below b (below-next s i ∙ ap (λ c. slotsBelow s i ++ cond c (i ∷ []) []) (sym e)) r q carriers' f in
-        rw x record {
+        let t = next-below b (below-next s i ∙ ap (λ c. slotsBelow s i ++ cond c (i ∷ []) []) (sym e)) r q in
+        rw (x, f) record {
           levelled = levelled-still tc tk slots i n (was .levelled);
-          room = t .1;
+          room = length-set carriers n i ∙ was .room;
           upto = omega arith;
           few = omega (arith, t .0, below-le s (i + 1));
           counted = t .0;
-          number = more-numbers (λ j. length (slotsBelow s j)) slots (was .levelled .size) i n h (was .number) (was .counted);
-          carrier = t .2;
+          number = more-numbers (λ j. length (slotsBelow s j)) (λ j. T (crossedSlot s j)) slots (was .levelled .size) i n h (was .number) (was .counted);
+          carrier = t .1;
         }
+
+  module _ (slots carriers : List ℕ) (n : ℕ) where
+    -- a slot that is not crossed, passed over
+    pass-one : (i : ℕ) → i < 14616 → crossedSlot s i ≡ false → NumberedBelow tc tk clearance slots carriers n i → NumberedBelow tc tk clearance slots carriers n (i + 1)
+    pass-one i h e was =
+        let same : slotsBelow s (i + 1) ≡ slotsBelow s i = below-next s i ∙ ap (λ c. slotsBelow s i ++ cond c (i ∷ []) []) e ∙ append-nil (slotsBelow s i) in
+        record {
+          levelled = was .levelled;
+          room = was .room;
+          upto = omega arith;
+          few = omega (arith, was .few);
+          counted = was .counted ∙ sym (ap length same);
+          number = λ j k t. go j t (ℕ-discrete j i) (omega arith);
+          carrier = λ v k. was .carrier v k ∙ sym (ap (λ l. getD l v 0) same);
+        }
+      where
+        go : (j : ℕ) → T (crossedSlot s j) → Dec (j ≡ i) → j ≤ i → numberAt slots j ≡ length (slotsBelow s j)
+        go j t (yes q) k = absurd (subst T (ap (crossedSlot s) q ∙ e) t)
+        go j t (no q) k = was .number j (omega arith) t
+
+    -- slots that are not crossed, passed over
+    pub pass-over : (d i : ℕ) → i + d ≤ 14616 → ((j : ℕ) → i ≤ j → j < i + d → crossedSlot (surveyOf tc tk clearance) j ≡ false)
+        → NumberedBelow tc tk clearance slots carriers n i → NumberedBelow tc tk clearance slots carriers n (i + d)
+    pass-over zero i h e was = rw add-zero was
+    pass-over (suc d) i h e was =
+        let next : i + 1 + d ≡ i + suc d = omega arith in
+        rw next at (pass-over d (i + 1) (omega arith) (λ j a b. e j (omega arith) (omega arith)) (pass-one i (omega arith) (e i (omega arith) (omega arith)) was))
 
 -- the last slot passed
 module _ (tc tk : List ℕ) (clearance : Float) (laws : Edged (surveyOf tc tk clearance)) (few : length (surveyOf tc tk clearance .places) ≤ 4872)
     (slots carriers : List ℕ) (n i : ℕ) (was : NumberedBelow tc tk clearance slots carriers n i) (e : i ≡ 14616) where
   pub numbers-done : Numbered tc tk clearance slots
-  numbers-done = record { levelled = was .levelled; number = λ j h. was .number j (omega arith) }
+  numbers-done = record { levelled = was .levelled; number = λ j h t. was .number j (omega arith) t }
 
   pub carriers-done : Carriers (surveyOf tc tk clearance) carriers
   carriers-done = record {

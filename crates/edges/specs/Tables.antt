@@ -22,6 +22,13 @@ use Rattle.records.specs.Keys.{placesOf}
 abbrev pub cellEdges : Cell → List CellEdge
 cellEdges c = collect (cellEdgesOn c) axes
 
+-- the corners of a cell, of eight, at which its twelve edges start and end
+abbrev pub starts : List ℕ
+starts = 0 ∷ 2 ∷ 4 ∷ 6 ∷ 0 ∷ 4 ∷ 1 ∷ 5 ∷ 0 ∷ 1 ∷ 2 ∷ 3 ∷ []
+
+abbrev pub ends : List ℕ
+ends = 1 ∷ 3 ∷ 5 ∷ 7 ∷ 2 ∷ 6 ∷ 3 ∷ 7 ∷ 4 ∷ 5 ∷ 6 ∷ 7 ∷ []
+
 unfoldable pub edgesOf : List Cell → List CellEdge
 edgesOf cells = collect cellEdges cells
 
@@ -117,10 +124,10 @@ pub record Levels (tk : List ℕ) (es : List CellEdge) (slots : List ℕ) : Type
 abbrev pub Levelled : List ℕ → List ℕ → List ℕ → Type 0
 Levelled tc tk slots = Levels tk (edgesOf (cellsOf tc)) slots
 
--- the same, and for each slot how many crossed slots come before it
+-- the same, and for each crossed slot how many crossed slots come before it
 pub record Numbered (tc tk : List ℕ) (clearance : Float) (slots : List ℕ) : Type 0 where
   pub levelled : Levelled tc tk slots
-  pub number : (i : ℕ) → i < 14616 → numberAt slots i ≡ length (slotsBelow (surveyOf tc tk clearance) i)
+  pub number : (i : ℕ) → i < 14616 → T (crossedSlot (surveyOf tc tk clearance) i) → numberAt slots i ≡ length (slotsBelow (surveyOf tc tk clearance) i)
 
 -- 1 for each corner record that is wet at the clearance, else 0
 pub record Wets (tk : List ℕ) (clearance : Float) (table : List ℕ) : Type 0 where

@@ -1,7 +1,7 @@
 // Edges and crossing points of a survey: the table of slots (levels and numbers), the point of an odd edge, and the writer of all points.
 // Uses records, reader, cells, checks, octants and places. specs/ says what each table holds.
 ghost use mathlib.Core.Path.{_≡_};
-ghost use mathlib.Core.Bool.{true, cond};
+ghost use mathlib.Core.Bool.{true};
 ghost use mathlib.Core.List.{[]};
 ghost use Prim.Native.Nat.{_+_, _*_, _/_, _%_, _≤_, _<_};
 ghost use lib.Dec.{T};
@@ -16,13 +16,13 @@ ghost use Rattle.places.specs.Places.{asSpot};
 ghost use Rattle.cells.specs.Laid.{Laid};
 ghost use Rattle.octants.specs.Octants.{Octants};
 ghost use Rattle.edges.specs.Tables.{placeAt, crossedSlot, slotEdge, Levels, Levelled, Numbered, Wets, Carriers, OddEdge, Sought};
-ghost use Rattle.edges.specs.Numbering.{NumberedBelow};
 use places::Point;
 
 pub mod ends;
 pub mod keys;
 mod noting;
 pub mod table;
+pub mod twelve;
 
 // The levels and upper ends of the table of slots, filled: of the edges of all cells, record by record.
 pub fn fill_levels(cells: &[u8], corners: &[u8], octants: &[u16], laid: &[u64], slots: &mut [u16])
@@ -80,43 +80,18 @@ pub fn is_crossed(
     wets[k] != wets[end]
 }
 
-// Enters a crossed slot as the carrier of point n; the number of points then.
+// Enters a slot as the carrier of point n; the number of points then. A slot that is not crossed is entered too, and the next one takes its place: a processor
+// can't foretell a branch on it.
 fn enter(carriers: &mut [u16], n: usize, slot: usize, crossed: bool) -> usize
     requires { ⌜ (n < length (now carriers)) × (length (now carriers) ≡ 14616) × (slot < 14616) ⌝ }
-    ensures { λ r. ⌜ (r ≡ n + bit crossed) × (now (carriers .exit) ≡ cond crossed (set (now (carriers .entry)) n slot) (now (carriers .entry))) ⌝ }
+    ensures { λ r. ⌜ (r ≡ n + bit crossed) × (now (carriers .exit) ≡ set (now (carriers .entry)) n slot) ⌝ }
 {
-    if crossed {
-        carriers[n] = slot as u16;
-        return n + 1;
-    }
-    n
+    carriers[n] = slot as u16;
+    n + (crossed as usize)
 }
 
-// Numbers the slots of an axis from `slot` on, for which there are no corner records: none of them is crossed. Where the slots of the next axis begin.
-fn number_rest(
-    cells: &[u8],
-    corners: &[u8],
-    clearance: f32,
-    slots: &mut [u16],
-    carriers: &[u16],
-    n: usize,
-    slot: usize,
-) -> usize
-    requires { ⌜ NumberedBelow (now cells) (now corners) clearance (now slots) (now carriers) n slot ⌝ }
-    requires { ⌜ (slot < 14616) × (length (now corners) / 10 ≤ slot % 4872) ⌝ }
-    ensures { λ r. ⌜ slot < r ⌝ }
-    ensures { λ r. ⌜ NumberedBelow (now (cells .entry)) (now (corners .entry)) clearance (now (slots .exit)) (now (carriers .entry)) n r ⌝ }
-{
-    let end = slot / 4872 * 4872 + 4872;
-    let mut at = slot;
-    while at < end {
-        slots[3 * at + 2] = n as u16;
-        at += 1;
-    }
-    end
-}
-
-// Numbers the points in one pass over the slots: for each slot the crossed ones before it, for each point the slot that carries it. How many points there are.
+// Numbers the points in one pass over the slots: for each slot of a corner record the crossed ones before it, for each point the slot that carries it. How many
+// points there are.
 pub fn number_slots(
     cells: &[u8],
     corners: &[u8],
@@ -138,7 +113,7 @@ pub fn number_slots(
     let mut slot: usize = 0;
     while slot < 14616 {
         if slot % 4872 >= count {
-            slot = number_rest(cells, corners, clearance, slots, carriers, n, slot);
+            slot = slot / 4872 * 4872 + 4872;
             continue;
         }
         let crossed = is_crossed(cells, corners, clearance, wets, slots, slot);

@@ -10,11 +10,7 @@ ghost use Rattle.edges.specs.Tables.{edgesOf, Levels};
 ghost use Rattle.edges.specs.Noting.{withEdge};
 use super::keys;
 use super::table;
-
-// The corners of a cell at which its twelve edges start and end: four edges for each axis.
-const STARTS: [usize; 12] = [0, 2, 4, 6, 0, 4, 1, 5, 0, 1, 2, 3];
-
-const ENDS: [usize; 12] = [1, 3, 5, 7, 2, 6, 3, 7, 4, 5, 6, 7];
+use super::twelve;
 
 // Notes one edge at its slot: its level, and the corner record at its upper end.
 fn note_edge(slots: &mut [u16], slot: usize, level: u8, end: u16)
@@ -46,8 +42,8 @@ pub fn note_cell(
     let mut e: usize = 12;
     while e > 0 {
         e -= 1;
-        let start = octants[8 * n + STARTS[e]] as usize;
-        let end = octants[8 * n + ENDS[e]];
+        let start = octants[8 * n + twelve::start_of(e)] as usize;
+        let end = octants[8 * n + twelve::end_of(e)];
         note_edge(slots, 4872 * (e / 4) + start, level, end);
     }
 }

@@ -1,9 +1,9 @@
 -- `edges::number_slots` meets its contract: before each turn the slots passed are numbered and the points found are entered.
-use Rattle.edges.proofs.Numbering.{number-none, number-next, numbers-done, carriers-done, count-done}
-use Rattle.edges.proofs.Readings.{edges-law, few-places}
+use Rattle.edges.proofs.Numbering.{number-none, number-next, pass-over, numbers-done, carriers-done, count-done}
+use Rattle.edges.proofs.Readings.{edges-law, few-places, record-outside}
 use Rattle.edges.proofs.Entries.{withNumber}
 use Rattle.edges.specs.Numbering.{NumberedBelow}
-use Prim.Native.Nat.{_-_}
+use Prim.Native.Nat.{_+_, _-_, _*_, _/_}
 use mathlib.Core.Path.{_≡_, refl, sym, _∙_}
 use native.Mathlib.Omega.{arith}
 use borrow.Author.Needs.{needs}
@@ -24,14 +24,25 @@ loop-holds c =
     let s = c .before .before .before .before .before in
     number-none _ _ _ _ _ (s .pre .1 .1 .0) (s .pre .1 .1 .1)
 
-number-rest-requires : tie.Need-number-rest-requires Inv-loop μ-loop
-number-rest-requires c κs = (c .before .before .before .before .loop .inv, search needs)
+mul-slot : tie.Need-mul-slot Inv-loop μ-loop
+mul-slot c = search needs
+
+add-slot : tie.Need-add-slot Inv-loop μ-loop
+add-slot c = search needs
 
 loop-less : tie.Need-loop-less Inv-loop μ-loop
 loop-less c = search needs
 
+-- the slots of an axis for which there are no corner records are not crossed
 loop-again : tie.Need-loop-again Inv-loop μ-loop
-loop-again c = search needs
+loop-again c =
+    let l = c .before .before in
+    let a = start l .args in
+    let slot = l .loop .slot in
+    let left = slot / 4872 * 4872 + 4872 - slot in
+    let end : slot + left ≡ slot / 4872 * 4872 + 4872 = omega arith in
+    rw end at (pass-over (a .cells .now) (a .corners .now) (a .clearance) _ _ _ left slot (omega arith)
+    (λ j h k. record-outside (a .cells .now) (a .corners .now) (a .clearance) j (omega arith)) (l .loop .inv))
 
 is-crossed-requires : tie.Need-is-crossed-requires Inv-loop μ-loop
 is-crossed-requires c κs =
@@ -57,8 +68,8 @@ slice-write-slots c = omega (arith, c .before .before .before .before .loop .inv
 enter-requires : tie.Need-enter-requires Inv-loop μ-loop
 enter-requires c κs = search needs
 
-add-slot : tie.Need-add-slot Inv-loop μ-loop
-add-slot c = search needs
+add-slot-2 : tie.Need-add-slot-2 Inv-loop μ-loop
+add-slot-2 c = search needs
 
 loop-less-2 : tie.Need-loop-less-2 Inv-loop μ-loop
 loop-less-2 c = search needs
@@ -100,7 +111,8 @@ number-slots-spec =
     Inv-loop
     μ-loop
     loop-holds
-    number-rest-requires
+    mul-slot
+    add-slot
     loop-less
     loop-again
     is-crossed-requires
@@ -110,7 +122,7 @@ number-slots-spec =
     mul-slots-2
     slice-write-slots
     enter-requires
-    add-slot
+    add-slot-2
     loop-less-2
     loop-again-2
     same-length

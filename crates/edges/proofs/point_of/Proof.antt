@@ -19,7 +19,8 @@ returns : tie.Need-returns
 returns c =
     let found = c .before in
     let s = found .before .before .before .before .before in
-    c .number .ensures ∙ s .pre .1 .1 .0 .number (found .carrier-slot .result) (found .carrier-slot .ensures .inside) ∙
+    c .number .ensures ∙ s .pre .1 .1 .0 .number (found .carrier-slot .result) (found .carrier-slot .ensures .inside)
+    (found .carrier-slot .ensures .crossed) ∙
     slot-point-of (s .args .cells .now) (s .args .corners .now) (s .args .clearance) (s .pre .0) (axisOf (s .args .axis)) _ (s .args .top) _
     (found .carrier-slot .ensures)
 
