@@ -1,4 +1,4 @@
--- The twelve edges of a cell by its corners, and their points by the corner records there.
+-- The points of a cell's twelve edges, by the corner records at their ends.
 use Prim.Native.Nat.{ℕ, _/_, _<_}
 use mathlib.Core.Path.{_≡_, refl, sym, ap, _∙_, subst}
 use mathlib.Core.Bool.{true, false, not, cond}
@@ -19,46 +19,12 @@ use Rattle.rules.specs.Outputs.{accepted, surveyOf}
 use Rattle.records.specs.Keys.{placesOf}
 use Rattle.cells.specs.Laid.{cellAt}
 use Rattle.octants.specs.Octants.{Octant}
-use Rattle.edges.specs.Tables.{cellEdges, edgesOf, placeAt, UpperEnd, Wets, OddEdge}
+use Rattle.edges.specs.Tables.{cellEdges, starts, ends, edgesOf, placeAt, UpperEnd, Wets, OddEdge}
+use Rattle.edges.proofs.CellEdges.{starting, ending}
 use Rattle.edges.proofs.Starts.{listed→edge}
 use Rattle.edges.proofs.Readings.{no-refusal, odd-read}
 use Rattle.edges.proofs.Surveyed.{record-inside}
 use Rattle.crossings.specs.Crossings.{edgeAt, crossingOf}
-
--- ---- the twelve edges, over all at once
-
--- the corners at which they start and end
-abbrev pub starts : List ℕ
-starts = 0 ∷ 2 ∷ 4 ∷ 6 ∷ 0 ∷ 4 ∷ 1 ∷ 5 ∷ 0 ∷ 1 ∷ 2 ∷ 3 ∷ []
-
-abbrev pub ends : List ℕ
-ends = 1 ∷ 3 ∷ 5 ∷ 7 ∷ 2 ∷ 6 ∷ 3 ∷ 7 ∷ 4 ∷ 5 ∷ 6 ∷ 7 ∷ []
-
-module _ (e : ℕ) (g : e < 12) where
-  pub start-below : getD starts e 0 < 8
-  start-below = ltb→lt (getD starts e 0) 8 (all→in (λ i. ltb i 8) starts tt (getD starts e 0) (in-get starts e 0 g))
-
-  pub end-below : getD ends e 0 < 8
-  end-below = ltb→lt (getD ends e 0) 8 (all→in (λ i. ltb i 8) ends tt (getD ends e 0) (in-get ends e 0 g))
-
-  module _ (c : Cell) where
-    abbrev corner : ℕ → Place
-    corner i = getD (cellCorners c) i origin
-
-    -- edge e is on axis e / 4 and starts at its corner
-    pub starting : edgeAt c e ≡ edge (axisOf (e / 4)) (getD (cellCorners c) (getD starts e 0) origin) (c .level)
-    starting =
-        let from : ℕ → CellEdge = λ i. edge (axisOf (i / 4)) (corner (getD starts i 0)) (c .level) in
-        let twelve : collect (cellEdgesOn c) axes ≡ map from (count 0 12) = refl in
-        ap (λ (es : List CellEdge). getD es e (edge X origin 0)) twelve ∙ get-table from (edge X origin 0) 12 e g
-
-    -- and ends at the other
-    pub ending : getD (cellCorners c) (getD ends e 0) origin ≡ move (axisOf (e / 4)) (size c) (getD (cellCorners c) (getD starts e 0) origin)
-    ending =
-        let from : ℕ → Place = λ i. move (axisOf (i / 4)) (size c) (corner (getD starts i 0)) in
-        let to : ℕ → Place = λ i. corner (getD ends i 0) in
-        let twelve : map to (count 0 12) ≡ map from (count 0 12) = refl in
-        sym (get-table to origin 12 e g) ∙ ap (λ (ps : List Place). getD ps e origin) twelve ∙ get-table from origin 12 e g
 
 -- ---- an edge of a survey
 

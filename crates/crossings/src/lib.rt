@@ -10,14 +10,10 @@ ghost use Rattle.cells.specs.Laid.{cellAt};
 ghost use Rattle.octants.specs.Octants.{Octants};
 ghost use Rattle.crossings.specs.Crossings.{edgeAt, crossingOf, binary, Crossings};
 ghost use Rattle.crossings.specs.Filling.{Known, PointsTo};
+use edges::twelve;
 use rules::Leaf;
 
 mod corners;
-
-// The corners of a cell at which its twelve edges start and end: four edges for each axis.
-const STARTS: [usize; 12] = [0, 2, 4, 6, 0, 4, 1, 5, 0, 1, 2, 3];
-
-const ENDS: [usize; 12] = [1, 3, 5, 7, 2, 6, 3, 7, 4, 5, 6, 7];
 
 // Takes up the leaf of record `n` with its eight corners side by side.
 pub fn leaf_at(cells: &[u8], corners: &[u8], clearance: f32, octants: &[u16], n: usize) -> Leaf
@@ -72,8 +68,8 @@ fn crossing(
 {
     let n = i / 12;
     let e = i % 12;
-    let start = corners::octant_record(cells, corners, octants, n, STARTS[e]);
-    let end = corners::octant_record(cells, corners, octants, n, ENDS[e]);
+    let start = corners::octant_record(cells, corners, octants, n, twelve::start_of(e));
+    let end = corners::octant_record(cells, corners, octants, n, twelve::end_of(e));
     if wets[start] == wets[end] {
         return 65535;
     }
