@@ -1,10 +1,10 @@
--- `drawing::settle` meets its contract: by whether the triangles are wanted, have room in the slice, and had room in the scratch.
+-- `triangles::settle` meets its contract: by whether the triangles are wanted, have room in the slice, and had room in the scratch.
 use native.Mathlib.Omega.{arith}
 use Rattle.leaves.proofs.Records.{still}
-use Rattle.drawing.proofs.Settling.{unwanted, too-short, copied, redrawn}
+use Rattle.triangles.proofs.Settling.{unwanted, too-short, copied, redrawn}
 use borrow.Author.Needs.{needs}
-use Rattle.drawing.proofs.settle.Statement.{statement}
-use Rattle.drawing.proofs.settle.Tie as tie
+use Rattle.triangles.proofs.settle.Statement.{statement}
+use Rattle.triangles.proofs.settle.Tie as tie
 
 draw-leaves-requires : tie.Need-draw-leaves-requires
 draw-leaves-requires c κs = search needs

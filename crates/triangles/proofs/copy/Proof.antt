@@ -1,14 +1,14 @@
--- `drawing::copy` meets its contract: before each turn the first i elements are copied.
+-- `triangles::copy` meets its contract: before each turn the first i elements are copied.
 use Prim.Native.Nat.{_-_, _≤_}
 use mathlib.Core.Path.{_≡_, refl, ap, _∙_}
 use mathlib.Core.List.{_++_}
 use lib.ListN.{length, getD, set, take, drop, length-set}
 use native.Mathlib.Numerals.{add-one}
-use Rattle.drawing.proofs.Settling.{copy-more}
+use Rattle.triangles.proofs.Settling.{copy-more}
 use borrow.Author.Needs.{needs}
 use native.Mathlib.Omega.{arith}
-use Rattle.drawing.proofs.copy.Statement.{statement}
-use Rattle.drawing.proofs.copy.Tie as tie
+use Rattle.triangles.proofs.copy.Statement.{statement}
+use Rattle.triangles.proofs.copy.Tie as tie
 
 abbrev Inv-loop : tie.InvT-loop
 Inv-loop from end to₀ i₀ to i = (i ≤ end) × (length to ≡ length to₀) × (to ≡ take i from ++ drop i to₀)

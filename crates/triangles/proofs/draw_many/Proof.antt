@@ -1,10 +1,10 @@
--- `drawing::draw_many` meets its contract: a fresh trace is empty.
+-- `triangles::draw_many` meets its contract: a fresh trace is empty.
 use native.Mathlib.Omega.{arith}
 use Rattle.leaves.proofs.Leaves.{points-few}
-use Rattle.drawing.proofs.Settling.{made, ready}
+use Rattle.triangles.proofs.Settling.{made, ready}
 use borrow.Author.Needs.{needs}
-use Rattle.drawing.proofs.draw_many.Statement.{statement}
-use Rattle.drawing.proofs.draw_many.Tie as tie
+use Rattle.triangles.proofs.draw_many.Statement.{statement}
+use Rattle.triangles.proofs.draw_many.Tie as tie
 
 array-write-trace : tie.Need-array-write-trace
 array-write-trace c = search needs

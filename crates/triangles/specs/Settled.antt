@@ -1,6 +1,6 @@
--- The tables that a drawing fills, and what it does with the triangles that it draws from them.
+-- The tables that all triangles are drawn from, and what is done with them.
 -- Assumes nothing: these are definitions.
-use Prim.Native.Nat.{ℕ, _*_, _/_, _≤_}
+use Prim.Native.Nat.{ℕ, _*_}
 use mathlib.Core.Path.{_≡_}
 use mathlib.Core.Bool.{Bool, true, _&&_, cond}
 use mathlib.Core.List.{List}
@@ -11,17 +11,9 @@ use Rattle.base.specs.Lists.{collect}
 use Rattle.rules.specs.Edges.{pointEdges}
 use Rattle.rules.specs.Steps.{Triangle}
 use Rattle.rules.specs.Outputs.{accepted, surveyOf, numbers, written}
-use Rattle.edges.specs.Tables.{Wets, Numbered, Carriers, Twins}
+use Rattle.edges.specs.Tables.{Twins}
 use Rattle.across.specs.Across.{Beyond}
 use Rattle.crossings.specs.Crossings.{Crossings}
-
--- the tables of edges and points, filled: n is the number of points
-pub record Filled (tc tk : List ℕ) (clearance : Float) (wets slots carriers twins : List ℕ) (n : ℕ) : Type 0 where
-  pub wet : Wets tk clearance wets
-  pub slot : Numbered tc tk clearance slots
-  pub carrier : Carriers (surveyOf tc tk clearance) carriers
-  pub twin : Twins (surveyOf tc tk clearance) twins
-  pub count : n ≡ length (pointEdges (surveyOf tc tk clearance))
 
 -- The tables that the leaves are drawn from, of an accepted survey with this cell table and n points. The corner table and the clearance are nowhere in
 -- the code that draws the leaves.
