@@ -1,4 +1,4 @@
--- Wet marks as digits of a number in base two, and the sixteen wet patterns of a face: digit i says that corner i is wet.
+-- Digits of numbers: small tables in base sixteen, wet marks in base two; and the sixteen wet patterns of a face: digit i says that corner i is wet.
 use Prim.Native.Nat.{ℕ, _+_, _*_, _/_, _%_, _^_}
 use mathlib.Core.Bool.{Bool, true, cond}
 use mathlib.Core.List.{List, [], _∷_}
@@ -6,7 +6,11 @@ use lib.Dec.{eqb, ltb}
 use Rattle.base.specs.Lists.{bit}
 use Rattle.rules.specs.Steps.{Step, stepIn}
 
--- digit i is 1
+-- digit i of a number in base sixteen
+abbrev pub hexDigit : ℕ → ℕ → ℕ
+hexDigit n i = n / 16 ^ i % 16
+
+-- digit i of a number in base two is 1
 abbrev pub wetDigit : ℕ → ℕ → Bool
 wetDigit mask i = eqb (mask / 2 ^ i % 2) 1
 
