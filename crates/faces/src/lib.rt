@@ -5,7 +5,7 @@ ghost use Prim.Native.Nat.{_+_, _*_, _/_, _≤_, _<_};
 ghost use lib.ListN.{length, getD};
 ghost use Rattle.base.specs.Lists.{bit};
 ghost use Rattle.trace.specs.Trace.{recorded};
-ghost use Rattle.faces.specs.Patterns.{hexDigit, wetDigit, stepFrom};
+ghost use Rattle.faces.specs.Patterns.{hexDigit, wetDigit, stepFrom, firstEntry};
 ghost use Rattle.faces.specs.Faces.{rowDigit, rowCorner, rowEdge, rowPattern, edgeSteps, rowSteps, quarters, smallTableSteps};
 ghost use Rattle.faces.specs.Faces.{sideTableSteps, leafTableSteps, Fits, Roomy, Reaching};
 
@@ -139,17 +139,29 @@ fn edge_step(crossings: &[u16], trace: &mut [u16], row: usize, m: usize, pattern
     trace::record_step(trace, from, to);
 }
 
-// Records the steps in a row of record m, edge after edge.
+// The first edge by which a step enters in a pattern; 4 where none enters.
+fn first_entry(pattern: usize) -> usize
+    requires { ⌜ pattern < 16 ⌝ }
+    ensures { λ r. ⌜ r ≡ firstEntry pattern ⌝ }
+{
+    hex_digit(0x4011_2022_3011_3034, pattern)
+}
+
+// Records the steps in a row of record m. None enters where all corners are wet or all are dry; else one enters by the first edge from a dry corner to a
+// wet one, and where opposite corners are wet, in patterns 5 and 10, another by the edge two further on.
 fn row_steps(crossings: &[u16], trace: &mut [u16], row: usize, m: usize)
     requires { ⌜ (row < 12) × (13 * m + 13 ≤ length (now crossings)) ⌝ }
     requires { ⌜ Fits (rowSteps (now crossings) row m) (length (now trace)) ⌝ }
     ensures { λ _. ⌜ now (trace .exit) ≡ recorded (rowSteps (now (crossings .entry)) row m) (now (trace .entry)) ⌝ }
 {
     let pattern = row_pattern(crossings, row, m);
-    let mut j: usize = 0;
-    while j < 4 {
-        edge_step(crossings, trace, row, m, pattern, j);
-        j += 1;
+    if pattern % 15 == 0 {
+        return;
+    }
+    let j = first_entry(pattern);
+    edge_step(crossings, trace, row, m, pattern, j);
+    if pattern % 5 == 0 {
+        edge_step(crossings, trace, row, m, pattern, j + 2);
     }
 }
 
