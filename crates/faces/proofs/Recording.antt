@@ -16,6 +16,8 @@ use Rattle.trace.specs.Trace.{meets, recorded}
 use Rattle.trace.proofs.Laws.{length-recorded, recorded-append}
 use Rattle.faces.specs.Patterns.{stepFrom, stepTo}
 use Rattle.faces.specs.Faces.{rowEdge, rowPattern, edgeSteps, rowSteps, smallTableSteps, sideTableSteps, leafTableSteps, Fits}
+use Rattle.faces.proofs.Patterns.{entering, steps-entering}
+use Rattle.faces.proofs.Steps.{map-collect, stepOf}
 
 -- ---- the step that enters by an edge
 
@@ -45,11 +47,15 @@ module _ (crossings : List ℕ) (r m pattern j k : ℕ) (e : k ≡ stepFrom patt
           f .small,
         )
 
--- the steps of a row, where its pattern is known
-pub row-parts : (crossings : List ℕ) (r m pattern : ℕ) → pattern ≡ rowPattern crossings r m
-    → collect (edgeSteps crossings r m pattern) (count 0 4) ≡ rowSteps crossings r m
-unfolding rowSteps
-row-parts crossings r m pattern e = ap (λ p. collect (edgeSteps crossings r m p) (count 0 4)) e
+-- the steps of a row are those that enter by the edges of its pattern
+pub row-parts : (crossings : List ℕ) (r m p : ℕ) → p ≡ rowPattern crossings r m → p < 16
+    → collect (edgeSteps crossings r m p) (entering p) ≡ rowSteps crossings r m
+unfolding rowSteps edgeSteps
+row-parts crossings r m p e h =
+    let f : Step → Step = stepOf (λ i. getD crossings (13 * m + rowEdge r i) 0) in
+    let g : ℕ → List Step = λ j. stepTo j (stepFrom p j) in
+    sym (map-collect f g (entering p)) ∙ ap (map f) (steps-entering p h) ∙ map-collect f g (count 0 4)
+    ∙ ap (λ p. collect (edgeSteps crossings r m p) (count 0 4)) e
 
 -- ---- a side, where the record across is known, and all sides
 
@@ -71,6 +77,14 @@ unfolding leafTableSteps
 leaf-parts tc across crossings n = refl
 
 -- ---- parts one after the other
+
+-- one part, and two
+module _ (f : ℕ → List Step) (t : List ℕ) (x : ℕ) where
+  pub recorded-one : recorded (f x) t ≡ recorded (collect f (x ∷ [])) t
+  recorded-one = sym (recorded-append (f x) [] t)
+
+  pub recorded-two : (y : ℕ) → recorded (f y) (recorded (f x) t) ≡ recorded (collect f (x ∷ y ∷ [])) t
+  recorded-two y = sym (recorded-append (f y) [] (recorded (f x) t)) ∙ sym (recorded-append (f x) (f y ++ []) t)
 
 -- of parts f x, one for each x of a list, those before place i are recorded
 pub record Recording (f : ℕ → List Step) (xs : List ℕ) (i : ℕ) (before now : List ℕ) : Type 0 where

@@ -1,9 +1,8 @@
 -- The rows of a cell: its corners and edges at the numbers of a row are those of the face, and so are the children there. Computed, for each axis and
 -- either side, on the leaf and across.
 use Prim.Native.Nat.{ℕ, zero, suc, _%_, _<_}
-use mathlib.Core.Path.{_≡_, refl, sym, ap, _∙_}
+use mathlib.Core.Path.{_≡_, refl}
 use mathlib.Core.Bool.{Bool, true, false, _&&_}
-use mathlib.Core.List.{map}
 use native.Mathlib.Omega.{arith}
 use lib.Dec.{T, ltb, ltb→lt}
 use lib.ListN.{getD}
@@ -11,13 +10,13 @@ use Rattle.base.specs.Lists.{all, count}
 use Rattle.base.specs.Grid.{Place, origin, Axis, X, Y, Z, move}
 use Rattle.base.proofs.Tests.{and→}
 use Rattle.base.proofs.Lists.{all→in, count-in}
-use Rattle.base.proofs.Below.{get-table}
 use Rattle.rules.specs.Survey.{Cell, cell, size, cellCorners}
 use Rattle.rules.specs.Edges.{edge}
 use Rattle.rules.specs.Steps.{Side, upperSide, lowerSide, Face, face, faceCorner, faceEdge}
 use Rattle.across.specs.Across.{sideNumber}
 use Rattle.crossings.specs.Crossings.{edgeAt}
 use Rattle.faces.specs.Faces.{rowSide, rowUpper, faceOn, cornerOn, edgeOn, rowCorner, rowEdge}
+use Rattle.faces.proofs.Table.{Alike, alike}
 
 abbrev sideOn : Axis → Bool → Side
 sideOn a true = upperSide a
@@ -33,13 +32,6 @@ of-sides P f (suc (suc (suc (suc zero)))) = f Z true
 of-sides P f (suc (suc (suc (suc (suc zero))))) = f Z false
 of-sides P f (suc (suc (suc (suc (suc (suc i)))))) = f X true
 
--- two functions agree on 0 to 3
-abbrev Alike : {A : Type 0} → (ℕ → A) → (ℕ → A) → Type 0
-Alike f g = map f (count 0 4) ≡ map g (count 0 4)
-
-alike : {A : Type 0} (d : A) (f g : ℕ → A) → Alike f g → (j : ℕ) → j < 4 → f j ≡ g j
-alike d f g e j h = sym (get-table f d 4 j h) ∙ ap (λ l. getD l j d) e ∙ get-table g d 4 j h
-
 -- corner j of a cell, by its number on a side of it
 abbrev cornerAt : Side → Bool → Cell → ℕ → Place
 cornerAt side upper c j = getD (cellCorners c) (cornerOn side upper j) origin
@@ -50,10 +42,10 @@ at c p = cell p (c .level) false
 
 record Row (side : Side) (upper : Bool) (c : Cell) : Type 0 where
   few : T (all (λ j. ltb (cornerOn side upper j) 8 && ltb (edgeOn side upper j) 12) (count 0 4))
-  corners : Alike (cornerAt side upper c) (faceCorner side (faceOn side upper c))
-  edges : Alike (λ j. edgeAt c (edgeOn side upper j)) (faceEdge side (faceOn side upper c))
+  corners : Alike 4 (cornerAt side upper c) (faceCorner side (faceOn side upper c))
+  edges : Alike 4 (λ j. edgeAt c (edgeOn side upper j)) (faceEdge side (faceOn side upper c))
   -- the cells of the size of c at its corners, as the children of a cell of twice its size
-  children : Alike (λ j. faceOn side upper (at c (cornerAt side upper c j)) .low) (faceCorner side (faceOn side upper (at c (faceOn side upper c .low))))
+  children : Alike 4 (λ j. faceOn side upper (at c (cornerAt side upper c j)) .low) (faceCorner side (faceOn side upper (at c (faceOn side upper c .low))))
   turned : (p : Place) → move (side .right) (size c) (move (side .up) (size c) p) ≡ move (side .up) (size c) (move (side .right) (size c) p)
 
 rows : (a : Axis) (u v : Bool) (c : Cell) → Row (sideOn a u) v c
@@ -91,12 +83,12 @@ module _ (r : ℕ) (c : Cell) where
         (ltb→lt (rowCorner r j) 8 (t .0), ltb→lt (rowEdge r j) 12 (t .1))
 
     pub corner-is : getD (cellCorners c) (rowCorner r j) origin ≡ faceCorner (rowSide r) (rowFace r c) j
-    corner-is = alike origin (cornerAt (rowSide r) (rowUpper r) c) (faceCorner (rowSide r) (rowFace r c)) (row .corners) j h
+    corner-is = alike origin 4 (cornerAt (rowSide r) (rowUpper r) c) (faceCorner (rowSide r) (rowFace r c)) (row .corners) j h
 
     pub edge-is : edgeAt c (rowEdge r j) ≡ faceEdge (rowSide r) (rowFace r c) j
-    edge-is = alike (edge X origin 0) (λ j. edgeAt c (rowEdge r j)) (faceEdge (rowSide r) (rowFace r c)) (row .edges) j h
+    edge-is = alike (edge X origin 0) 4 (λ j. edgeAt c (rowEdge r j)) (faceEdge (rowSide r) (rowFace r c)) (row .edges) j h
 
     pub child-face : rowFace r (cell (getD (cellCorners c) (rowCorner r j) origin) (c .level) false) .low
         ≡ faceCorner (rowSide r) (rowFace r (cell (rowFace r c .low) (c .level) false)) j
-    child-face = alike origin (λ j. rowFace r (at c (cornerAt (rowSide r) (rowUpper r) c j)) .low)
+    child-face = alike origin 4 (λ j. rowFace r (at c (cornerAt (rowSide r) (rowUpper r) c j)) .low)
         (faceCorner (rowSide r) (rowFace r (at c (rowFace r c .low)))) (row .children) j h

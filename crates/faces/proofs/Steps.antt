@@ -31,7 +31,7 @@ collect-same f g [] h = refl
 collect-same f g (x ∷ xs) h =
     ap (λ l. l ++ collect f xs) (h x (inl refl)) ∙ ap (λ l. g x ++ l) (collect-same f g xs (λ y i. h y (inr i)))
 
-map-collect : {A B C : Type 0} (f : B → C) (g : A → List B) (xs : List A) → map f (collect g xs) ≡ collect (λ x. map f (g x)) xs
+pub map-collect : {A B C : Type 0} (f : B → C) (g : A → List B) (xs : List A) → map f (collect g xs) ≡ collect (λ x. map f (g x)) xs
 map-collect f g [] = refl
 map-collect f g (x ∷ xs) = map-append f (g x) (collect g xs) ∙ ap (λ l. map f (g x) ++ l) (map-collect f g xs)
 
@@ -95,7 +95,7 @@ odd-crossing s e t = ap (λ b. cond b (pointOf s e) 65535) (true→ (odd (s .isW
 -- ---- the steps of a row
 
 -- a step from edge to edge, by the points of edges
-abbrev stepOf : (ℕ → ℕ) → Step → Step
+abbrev pub stepOf : (ℕ → ℕ) → Step → Step
 stepOf point t = (point (t .0), point (t .1))
 
 step-same : (f g : ℕ → ℕ) (i j : ℕ) → (j < 4 → (f i ≡ g i) × (f j ≡ g j)) → map (stepOf f) (stepTo i j) ≡ map (stepOf g) (stepTo i j)

@@ -1,12 +1,16 @@
--- Wet marks as digits of a number in base two, and the sixteen wet patterns of a face: digit i says that corner i is wet.
+-- Digits of numbers: small tables in base sixteen, wet marks in base two; and the sixteen wet patterns of a face: digit i says that corner i is wet.
 use Prim.Native.Nat.{ℕ, _+_, _*_, _/_, _%_, _^_}
 use mathlib.Core.Bool.{Bool, true, cond}
 use mathlib.Core.List.{List, [], _∷_}
 use lib.Dec.{eqb, ltb}
-use Rattle.base.specs.Lists.{bit}
+use Rattle.base.specs.Lists.{position, count, bit}
 use Rattle.rules.specs.Steps.{Step, stepIn}
 
--- digit i is 1
+-- digit i of a number in base sixteen
+abbrev pub hexDigit : ℕ → ℕ → ℕ
+hexDigit n i = n / 16 ^ i % 16
+
+-- digit i of a number in base two is 1
 abbrev pub wetDigit : ℕ → ℕ → Bool
 wetDigit mask i = eqb (mask / 2 ^ i % 2) 1
 
@@ -22,6 +26,11 @@ exit (t ∷ ts) = t .1
 -- the edge to which the step that enters by edge i goes, by the rule for steps with wet corners cut off; 4 where none enters
 unfoldable pub stepFrom : ℕ → ℕ → ℕ
 stepFrom p i = exit (stepIn true i (wetBit p i) (wetBit p (i + 1)) (wetBit p (i + 2)) (wetBit p (i + 3)))
+
+-- the first edge by which a step enters; 4 where none enters
+unfoldable pub firstEntry : ℕ → ℕ
+unfolding stepFrom
+firstEntry p = position (λ i. ltb (stepFrom p i) 4) 0 (count 0 4)
 
 -- the pattern of four wet marks
 abbrev pub patternOf : Bool → Bool → Bool → Bool → ℕ

@@ -5,9 +5,9 @@ ghost use Prim.Native.Nat.{_+_, _*_, _/_, _≤_, _<_};
 ghost use lib.ListN.{length, getD};
 ghost use Rattle.base.specs.Lists.{bit};
 ghost use Rattle.trace.specs.Trace.{recorded};
-ghost use Rattle.faces.specs.Patterns.{wetDigit, stepFrom};
-ghost use Rattle.faces.specs.Faces.{rowCorner, rowEdge, rowPattern, edgeSteps, rowSteps, quarters, smallTableSteps, sideTableSteps};
-ghost use Rattle.faces.specs.Faces.{leafTableSteps, Fits, Roomy, Reaching};
+ghost use Rattle.faces.specs.Patterns.{hexDigit, wetDigit, stepFrom, firstEntry};
+ghost use Rattle.faces.specs.Faces.{rowDigit, rowCorner, rowEdge, rowPattern, edgeSteps, rowSteps, quarters, smallTableSteps};
+ghost use Rattle.faces.specs.Faces.{sideTableSteps, leafTableSteps, Fits, Roomy, Reaching};
 
 // For each of the sixteen wet patterns of a face (bit i: corner i is wet; corners go counter-clockwise, seen from outside the leaf), the edge to
 // which the step that enters by edge i goes; 4 where none enters. Edge i joins corner i and corner i + 1.
@@ -30,41 +30,6 @@ const STEPS: [[u8; 4]; 16] = [
     [4, 4, 4, 4],
 ];
 
-// The corners of a row, as numbers among the eight of its cell: rows 0 to 5 are a leaf's own sides, rows 6 to 11 the sides towards it of the cells across.
-const CORNERS: [[u8; 4]; 12] = [
-    [1, 3, 7, 5],
-    [0, 4, 6, 2],
-    [2, 6, 7, 3],
-    [0, 1, 5, 4],
-    [4, 5, 7, 6],
-    [0, 2, 3, 1],
-    [0, 2, 6, 4],
-    [1, 5, 7, 3],
-    [0, 4, 5, 1],
-    [2, 3, 7, 6],
-    [0, 1, 3, 2],
-    [4, 6, 7, 5],
-];
-
-// The edges of a row, as numbers among the twelve of its cell.
-const EDGES: [[u8; 4]; 12] = [
-    [6, 11, 7, 9],
-    [8, 5, 10, 4],
-    [10, 3, 11, 1],
-    [0, 9, 2, 8],
-    [2, 7, 3, 5],
-    [4, 1, 6, 0],
-    [4, 10, 5, 8],
-    [9, 7, 11, 6],
-    [8, 2, 9, 0],
-    [1, 11, 3, 10],
-    [0, 6, 1, 4],
-    [5, 3, 7, 2],
-];
-
-// The corners at the quarters of a face, in the order of small faces.
-const QUARTERS: [usize; 4] = [0, 1, 3, 2];
-
 // The edge to which the step that enters by edge `edge` goes in a pattern, or 4.
 pub fn step_from(pattern: usize, edge: usize) -> u8
     requires { ⌜ (pattern < 16) × (edge < 4) ⌝ }
@@ -80,28 +45,62 @@ fn wide(x: u8) -> usize
     x as usize
 }
 
-// The number of corner j of a row.
+// Digit i of a number in base sixteen. The small tables below are digits of numbers: a table of arrays would be made anew at every look.
+fn hex_digit(number: usize, i: usize) -> usize
+    requires { ⌜ i < 16 ⌝ }
+    ensures { λ r. ⌜ r ≡ hexDigit number i ⌝ }
+{
+    (number >> (4 * i)) % 16
+}
+
+// Digit j of a row, where twelve rows of four digits are kept in three numbers, the first digit lowest: rows 0 to 3 in a, 4 to 7 in b, 8 to 11 in c.
+fn row_digit(row: usize, j: usize, a: usize, b: usize, c: usize) -> usize
+    requires { ⌜ (row < 12) × (j < 4) ⌝ }
+    ensures { λ r. ⌜ r ≡ rowDigit row j a b c ⌝ }
+{
+    if row < 4 {
+        return hex_digit(a, 4 * row + j);
+    }
+    if row < 8 {
+        return hex_digit(b, 4 * (row - 4) + j);
+    }
+    hex_digit(c, 4 * (row - 8) + j)
+}
+
+// The number of corner j of a row among the eight of its cell: rows 0 to 5 are a leaf's own sides, rows 6 to 11 the sides towards it of the cells across.
 fn row_corner(row: usize, j: usize) -> usize
     requires { ⌜ (row < 12) × (j < 4) ⌝ }
     ensures { λ r. ⌜ (r ≡ rowCorner row j) × (r < 8) ⌝ }
 {
-    wide(CORNERS[row][j])
+    row_digit(
+        row,
+        j,
+        0x4510_3762_2640_5731,
+        0x3751_4620_1320_6754,
+        0x5764_2310_6732_1540,
+    )
 }
 
-// The number of edge j of a row.
+// The number of edge j of a row among the twelve of its cell.
 fn row_edge(row: usize, j: usize) -> usize
     requires { ⌜ (row < 12) × (j < 4) ⌝ }
     ensures { λ r. ⌜ (r ≡ rowEdge row j) × (r < 12) ⌝ }
 {
-    wide(EDGES[row][j])
+    row_digit(
+        row,
+        j,
+        0x8290_1b3a_4a58_97b6,
+        0x6b79_85a4_0614_5372,
+        0x2735_4160_a3b1_0928,
+    )
 }
 
-// The corner of a face at which quarter i is.
+// The corner of a face at which quarter i is, in the order of small faces.
 fn quarter(i: usize) -> usize
     requires { ⌜ i < 4 ⌝ }
     ensures { λ r. ⌜ (r ≡ getD quarters i 0) × (r < 4) ⌝ }
 {
-    QUARTERS[i]
+    hex_digit(0x2310, i)
 }
 
 // 1 if corner j of a row is wet by the mask of its cell's wet corners, else 0.
@@ -140,17 +139,29 @@ fn edge_step(crossings: &[u16], trace: &mut [u16], row: usize, m: usize, pattern
     trace::record_step(trace, from, to);
 }
 
-// Records the steps in a row of record m, edge after edge.
+// The first edge by which a step enters in a pattern; 4 where none enters.
+fn first_entry(pattern: usize) -> usize
+    requires { ⌜ pattern < 16 ⌝ }
+    ensures { λ r. ⌜ r ≡ firstEntry pattern ⌝ }
+{
+    hex_digit(0x4011_2022_3011_3034, pattern)
+}
+
+// Records the steps in a row of record m. None enters where all corners are wet or all are dry; else one enters by the first edge from a dry corner to a
+// wet one, and where opposite corners are wet, in patterns 5 and 10, another by the edge two further on.
 fn row_steps(crossings: &[u16], trace: &mut [u16], row: usize, m: usize)
     requires { ⌜ (row < 12) × (13 * m + 13 ≤ length (now crossings)) ⌝ }
     requires { ⌜ Fits (rowSteps (now crossings) row m) (length (now trace)) ⌝ }
     ensures { λ _. ⌜ now (trace .exit) ≡ recorded (rowSteps (now (crossings .entry)) row m) (now (trace .entry)) ⌝ }
 {
     let pattern = row_pattern(crossings, row, m);
-    let mut j: usize = 0;
-    while j < 4 {
-        edge_step(crossings, trace, row, m, pattern, j);
-        j += 1;
+    if pattern % 15 == 0 {
+        return;
+    }
+    let j = first_entry(pattern);
+    edge_step(crossings, trace, row, m, pattern, j);
+    if pattern % 5 == 0 {
+        edge_step(crossings, trace, row, m, pattern, j + 2);
     }
 }
 

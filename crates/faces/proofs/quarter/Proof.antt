@@ -1,20 +1,25 @@
--- `faces::quarter` meets its contract: the table has the order of small faces.
-use mathlib.Core.Path.{refl}
+-- `faces::quarter` meets its contract: the digits have the order of small faces.
+use mathlib.Core.Path.{refl, sym, _∙_, subst}
+use Prim.Native.Nat.{ℕ, _<_}
+use lib.ListN.{getD}
 use borrow.Author.Needs.{needs}
 use Rattle.base.proofs.Lists.{in-get}
+use Rattle.faces.specs.Patterns.{hexDigit}
 use Rattle.faces.specs.Faces.{quarters}
+use Rattle.faces.proofs.Table.{alike}
 use Rattle.faces.proofs.Small.{quarter-few}
 use Rattle.faces.proofs.quarter.Statement.{statement}
 use Rattle.faces.proofs.quarter.Tie as tie
 
-mul-result : tie.Need-mul-result
-mul-result c = search needs
-
-array-read-result : tie.Need-array-read-result
-array-read-result c = search needs
+hex-digit-requires : tie.Need-hex-digit-requires
+hex-digit-requires c κs = search needs
 
 returns : tie.Need-returns
-returns c = (refl, quarter-few _ (in-get quarters (c .args .i) 0 (c .pre)))
+returns c =
+    let s = c .before in
+    let i = s .args .i in
+    let e = c .hex-digit .ensures ∙ alike 0 4 (hexDigit _) (λ i. getD quarters i 0) refl i (s .pre) in
+    (e, subst (λ j. j < 4) (sym e) (quarter-few (getD quarters i 0) (in-get quarters i 0 (s .pre))))
 
 pub quarter-spec : {M : Type 1} → statement M
-quarter-spec = tie.close (tie.spec mul-result array-read-result returns)
+quarter-spec = tie.close (tie.spec hex-digit-requires returns)
