@@ -2,6 +2,7 @@
 use Prim.Native.Nat.{ℕ, zero, suc, _+_, _*_, _≤_, _<_}
 use native.Mathlib.Nat.{add-zero}
 use mathlib.Core.Path.{_≡_, refl, sym, ap, _∙_, subst}
+use mathlib.Core.Logic.{_⊎_, inl, inr}
 use mathlib.Core.Bool.{Bool, true, false, cond}
 use mathlib.Core.List.{List, [], _∷_, _++_, append-nil}
 use native.Mathlib.Decide.{ℕ-discrete}
@@ -13,6 +14,7 @@ use lib.Seq.{getD-set-same, getD-set-other, getD-at}
 use Rattle.base.specs.Lists.{keep, count, bit}
 use Rattle.base.specs.Grid.{axisOf}
 use Rattle.base.proofs.Lists.{length-count}
+use Rattle.base.proofs.Tests.{below}
 use Rattle.rules.specs.Survey.{cellsOf, Survey}
 use Rattle.rules.specs.Edges.{pointEdges}
 use Rattle.rules.specs.Outputs.{surveyOf}
@@ -47,6 +49,15 @@ module _ (s : Survey) where
       go : (b : Bool) → length (slotsBelow s i ++ cond b (i ∷ []) []) ≡ length (slotsBelow s i) + bit b
       go true = length-append (slotsBelow s i) (i ∷ [])
       go false = length-append (slotsBelow s i) []
+
+  -- slots that are not crossed add none
+  pub none-between : (d i : ℕ) → ((j : ℕ) → i ≤ j → j < i + d → crossedSlot s j ≡ false) → slotsBelow s (i + d) ≡ slotsBelow s i
+  none-between zero i e = rw add-zero
+  none-between (suc d) i e =
+      let next : i + d + 1 ≡ i + suc d = omega arith in
+      sym (ap (slotsBelow s) next) ∙ below-next s (i + d)
+      ∙ ap (λ c. slotsBelow s (i + d) ++ cond c ((i + d) ∷ []) []) (e (i + d) (omega arith) (omega arith)) ∙ append-nil (slotsBelow s (i + d))
+      ∙ none-between d i (λ j a b. e j a (omega arith))
 
 -- A number entered leaves levels and upper ends as they were.
 levelled-still : (tc tk slots : List ℕ) (i n : ℕ) → Levelled tc tk slots → Levelled tc tk (withNumber slots i n)
@@ -123,32 +134,25 @@ module _ (tc tk : List ℕ) (clearance : Float) where
           carrier = t .1;
         }
 
-  module _ (slots carriers : List ℕ) (n : ℕ) where
-    -- a slot that is not crossed, passed over
-    pass-one : (i : ℕ) → i < 14616 → crossedSlot s i ≡ false → NumberedBelow tc tk clearance slots carriers n i → NumberedBelow tc tk clearance slots carriers n (i + 1)
-    pass-one i h e was =
-        let same : slotsBelow s (i + 1) ≡ slotsBelow s i = below-next s i ∙ ap (λ c. slotsBelow s i ++ cond c (i ∷ []) []) e ∙ append-nil (slotsBelow s i) in
-        record {
-          levelled = was .levelled;
-          room = was .room;
-          upto = omega arith;
-          few = omega (arith, was .few);
-          counted = was .counted ∙ sym (ap length same);
-          number = λ j k t. go j t (ℕ-discrete j i) (omega arith);
-          carrier = λ v k. was .carrier v k ∙ sym (ap (λ l. getD l v 0) same);
-        }
-      where
-        go : (j : ℕ) → T (crossedSlot s j) → Dec (j ≡ i) → j ≤ i → numberAt slots j ≡ length (slotsBelow s j)
-        go j t (yes q) k = absurd (subst T (ap (crossedSlot s) q ∙ e) t)
-        go j t (no q) k = was .number j (omega arith) t
-
-    -- slots that are not crossed, passed over
-    pub pass-over : (d i : ℕ) → i + d ≤ 14616 → ((j : ℕ) → i ≤ j → j < i + d → crossedSlot (surveyOf tc tk clearance) j ≡ false)
-        → NumberedBelow tc tk clearance slots carriers n i → NumberedBelow tc tk clearance slots carriers n (i + d)
-    pass-over zero i h e was = rw add-zero was
-    pass-over (suc d) i h e was =
-        let next : i + 1 + d ≡ i + suc d = omega arith in
-        rw next at (pass-over d (i + 1) (omega arith) (λ j a b. e j (omega arith) (omega arith)) (pass-one i (omega arith) (e i (omega arith) (omega arith)) was))
+  -- slots that are not crossed, passed over
+  pub pass-over : (slots carriers : List ℕ) (n d i : ℕ) → i + d ≤ 14616 →
+      ((j : ℕ) → i ≤ j → j < i + d → crossedSlot (surveyOf tc tk clearance) j ≡ false) →
+      NumberedBelow tc tk clearance slots carriers n i → NumberedBelow tc tk clearance slots carriers n (i + d)
+  pass-over slots carriers n d i h e was =
+      let same = none-between s d i e in
+      record {
+        levelled = was .levelled;
+        room = was .room;
+        upto = h;
+        few = omega (arith, was .few);
+        counted = was .counted ∙ sym (ap length same);
+        number = λ j k t. go j k t (below j i);
+        carrier = λ v k. was .carrier v k ∙ sym (ap (λ l. getD l v 0) same);
+      }
+    where
+      go : (j : ℕ) → j < i + d → T (crossedSlot s j) → (j < i) ⊎ (i ≤ j) → numberAt slots j ≡ length (slotsBelow s j)
+      go j k t (inl l) = was .number j l t
+      go j k t (inr l) = absurd (subst T (e j l k) t)
 
 -- the last slot passed
 module _ (tc tk : List ℕ) (clearance : Float) (laws : Edged (surveyOf tc tk clearance)) (few : length (surveyOf tc tk clearance .places) ≤ 4872)
