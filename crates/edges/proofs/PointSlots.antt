@@ -16,7 +16,7 @@ use Rattle.rules.specs.Edges.{CellEdge, edge, pointEdges}
 use Rattle.rules.specs.Outputs.{accepted, surveyOf}
 use Rattle.edges.specs.Tables.{placeAt, lowestLevel, crossedSlot, slotsBelow, slotEdge, lowestAt, farAt, Levelled, Carriers, OddEdge, UpperEnd}
 use Rattle.edges.proofs.Points.{edge-of, point-edge, point-count, below-in}
-use Rattle.edges.proofs.Readings.{edges-law, few-places, record-outside, empty, low-edge, crossed-odd, far-read}
+use Rattle.edges.proofs.Readings.{edges-law, few-places, crossed-inside, empty, low-edge, crossed-odd, far-read}
 use Rattle.edges.proofs.Numbering.{below-le}
 
 pub slot-edge : (s : Survey) (i : ℕ) →
@@ -49,11 +49,7 @@ module _ (tc tk : List ℕ) (clearance : Float) (ok : accepted tc tk clearance �
   -- a crossed slot is that of an odd edge
   module _ (slots : List ℕ) (known : Levelled tc tk slots) (i : ℕ) (h : i < 14616) (t : T (crossedSlot (surveyOf tc tk clearance) i)) where
     inside : i % 4872 < length tk / 10
-    inside = go (below (i % 4872) (length tk / 10))
-      where
-        go : (i % 4872 < length tk / 10) ⊎ (length tk / 10 ≤ i % 4872) → i % 4872 < length tk / 10
-        go (inl g) = g
-        go (inr g) = absurd (subst T (record-outside tc tk clearance i g) t)
+    inside = crossed-inside tc tk clearance i t
 
     level-low : lowestAt slots i ≤ 10
     level-low = go (below 10 (lowestAt slots i))

@@ -1,6 +1,7 @@
 -- What the code reads from the tables, in the words of the rules; of a survey that is accepted at a clearance.
 use Prim.Native.Nat.{ℕ, _+_, _*_, _/_, _%_, _^_, _≤_, _<_}
 use mathlib.Core.Path.{_≡_, refl, sym, ap, _∙_, subst}
+use mathlib.Core.Logic.{_⊎_, inl, inr}
 use mathlib.Core.Bool.{Bool, true, false, not, Bool·beq}
 use mathlib.Core.List.{List}
 use native.Mathlib.Omega.{arith}
@@ -10,7 +11,7 @@ use lib.ListN.{length, getD}
 use borrow.Author.Tests.{lt-ltb, le-ltb}
 use Rattle.base.specs.Lists.{bit}
 use Rattle.base.specs.Grid.{Axis, move, axisOf}
-use Rattle.base.proofs.Tests.{→true}
+use Rattle.base.proofs.Tests.{→true, below}
 use Rattle.rules.specs.Survey.{cellsOf, cornersOf, wetAt, Survey}
 use Rattle.rules.specs.Edges.{isEdge, odd}
 use Rattle.rules.specs.Outputs.{surveyRefusal, accepted, surveyOf}
@@ -82,6 +83,13 @@ module _ (s : Survey) (i : ℕ) where
 pub record-outside : (tc tk : List ℕ) (clearance : Float) (i : ℕ) → length tk / 10 ≤ i % 4872 → crossedSlot (surveyOf tc tk clearance) i ≡ false
 unfolding surveyOf
 record-outside tc tk clearance i h = slot-outside (surveyOf tc tk clearance) i (omega (arith, length-places tk))
+
+pub crossed-inside : (tc tk : List ℕ) (clearance : Float) (i : ℕ) → T (crossedSlot (surveyOf tc tk clearance) i) → i % 4872 < length tk / 10
+crossed-inside tc tk clearance i t = go (below (i % 4872) (length tk / 10))
+  where
+    go : (i % 4872 < length tk / 10) ⊎ (length tk / 10 ≤ i % 4872) → i % 4872 < length tk / 10
+    go (inl h) = h
+    go (inr h) = absurd (subst T (record-outside tc tk clearance i h) t)
 
 -- ---- an accepted survey
 

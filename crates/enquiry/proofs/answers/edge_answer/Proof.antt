@@ -131,7 +131,7 @@ carrier-slot-requires c κs =
 count-crossed-requires : tie.Need-count-crossed-requires
 count-crossed-requires c κs =
     let s = entry (c .before) in
-    (s .pre .0, (s .pre .1 .0, (s .pre .1 .1 .0, c .carrier-slot .ensures .inside)))
+    (s .pre .0, (s .pre .1 .0, (s .pre .1 .1 .0, (c .carrier-slot .ensures .inside, c .carrier-slot .ensures .crossed))))
 
 cast-n : tie.Need-cast-n
 cast-n c =
