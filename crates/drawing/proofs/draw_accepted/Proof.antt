@@ -117,7 +117,7 @@ draw-requires c κs =
     known (a .cells .now) (a .corners .now) (a .clearance) (s .pre .0) (reached x .fill .ensures) (x .fill2 .ensures) (t .fill-tables .ensures)
 
 shortage-requires : tie.Need-shortage-requires
-shortage-requires c κs = count-few (filled (reached (crossed (c .before .before .before))))
+shortage-requires c κs = omega (arith, count-few (filled (reached (crossed (c .before .before .before)))))
 
 -- what is known when the triangles are drawn and it is known whether both slices have room
 module _ (c : tie.After-shortage) where

@@ -19,6 +19,25 @@ Inv-loop cells across crossings twins trace₀ out₀ records count₀ n₀ trac
 abbrev μ-loop : tie.MeasureT-loop
 μ-loop cells across crossings twins trace₀ out₀ records count₀ n₀ trace out count n = length cells / 4 - n
 
+abbrev start : tie.At-loop Inv-loop μ-loop → tie.Start Inv-loop μ-loop
+start l = l .before .before .before .before .before .before .before
+
+-- from the record drawn to the loop's test
+abbrev turn : tie.After-draw-record Inv-loop μ-loop → tie.In-loop Inv-loop μ-loop
+turn c = c .before .before .before .before
+
+-- what was drawn before, and what the record at hand adds
+abbrev drew : (l : tie.At-loop Inv-loop μ-loop) → let a = start l .args in
+    (d : Ready (a .cells .now) (a .across .now) (a .crossings .now) (a .twins .now) (a .trace .now))
+    → Drew (d .limit) (trianglesTo (survey d) (l .loop .n)) (a .out .now) (l .loop .out) (l .loop .count) (l .loop .trace)
+drew l = l .loop .inv .1
+
+abbrev ready : (l : tie.At-loop Inv-loop μ-loop) → let a = start l .args in Ready (a .cells .now) (a .across .now) (a .crossings .now) (a .twins .now) (a .trace .now)
+    → Ready (a .cells .now) (a .across .now) (a .crossings .now) (a .twins .now) (l .loop .trace)
+ready l d =
+    let a = start l .args in
+    still (a .cells .now) (a .across .now) (a .crossings .now) (a .twins .now) (a .trace .now) (l .loop .trace) d (drew l d .emptied)
+
 loop-holds : tie.Need-loop-holds Inv-loop μ-loop
 loop-holds c =
     let a = c .before .before .before .before .before .before .args in
@@ -29,9 +48,9 @@ filled-requires c κs = search needs
 
 mul-draw-record : tie.Need-mul-draw-record Inv-loop μ-loop
 mul-draw-record c =
-    let l = c .before .before .before .loop in
-    let s = c .before .before .before .before .before .before .before .before .before .before in
-    let same : length (l .out) ≡ length (s .args .out .now) = ap length (l .inv .1 (s .pre) .wrote) ∙ into-length _ (s .args .out .now) in
+    let l = c .before .before .before in
+    let s = start l in
+    let same : length (l .loop .out) ≡ length (s .args .out .now) = ap length (drew l (s .pre) .wrote) ∙ into-length _ (s .args .out .now) in
     omega (arith, c .before .filled .ensures, same, s .good .1 .1 .1 .1 .1 .0)
 
 sub-draw-record : tie.Need-sub-draw-record Inv-loop μ-loop
@@ -45,20 +64,18 @@ part-draw-record-end c = search needs
 
 draw-record-requires : tie.Need-draw-record-requires Inv-loop μ-loop
 draw-record-requires c κs =
-    let s = c .before .before .before .before .before .before .before .before .before .before .before in
-    let d = s .pre in
-    let drew = c .before .before .before .before .loop .inv .1 d in
-    (still (s .args .cells .now) (s .args .across .now) (s .args .crossings .now) (s .args .twins .now) (s .args .trace .now) _ d (drew .emptied), c .before .before .before .loop-test .taken)
+    let t = c .before .before .before in
+    (ready (t .before) (start (t .before) .pre), t .loop-test .taken)
 
 add-count : tie.Need-add-count Inv-loop μ-loop
 add-count c =
-    let l = c .before .before .before .before .before .before .before .before .before .loop in
-    let s = c .before .before .before .before .before .before .before .before .before .before .before .before .before .before .before .before in
-    let a = s .args in
+    let r = c .before .before .before .before in
+    let t = turn r in
+    let l = t .before in
+    let s = start l in
     let d = s .pre in
-    let drew = l .inv .1 d in
-    let more = c .before .before .before .before .draw-record .ensures (still (a .cells .now) (a .across .now) (a .crossings .now) (a .twins .now) (a .trace .now) _ d (drew .emptied)) in
-    let most = count-room (a .cells .now) (d .corners) (d .clearance) (d .passed) (l .n) (c .before .before .before .before .before .before .before .before .loop-test .taken) (d .limit) _ _ _ _ _ _ _ _ drew more in
+    let most = count-room (s .args .cells .now) (d .corners) (d .clearance) (d .passed) (l .loop .n) (t .loop-test .taken) (d .limit) _ _ _ _ _ _ _ _
+    (drew l d) (r .draw-record .ensures (ready l d)) in
     omega arith
 
 add-n : tie.Need-add-n Inv-loop μ-loop
@@ -69,31 +86,29 @@ loop-less c = search needs
 
 loop-again : tie.Need-loop-again Inv-loop μ-loop
 loop-again c =
-    let l = c .before .before .before .before .before .before .before .before .before .loop in
-    let s = c .before .before .before .before .before .before .before .before .before .before .before .before .before .before .before .before in
-    let a = s .args in (
-      omega (arith, c .before .before .before .before .before .before .before .before .loop-test .taken),
-      λ d. let drew = l .inv .1 d in
-          let more = c .before .before .before .before .draw-record .ensures (still (a .cells .now) (a .across .now) (a .crossings .now) (a .twins .now) (a .trace .now) _ d (drew .emptied)) in
-          drew-more (a .cells .now) (d .corners) (d .clearance) (d .passed) (l .n) (c .before .before .before .before .before .before .before .before .loop-test .taken) (d .limit) _ _ _ _ _ _ _ _ drew more _ (c .before .before .before .before .before .before .before .filled .ensures) refl,
+    let r = c .before .before .before .before in
+    let t = turn r in
+    let l = t .before in
+    let a = start l .args in (
+      omega (arith, t .loop-test .taken),
+      λ d. drew-more (a .cells .now) (d .corners) (d .clearance) (d .passed) (l .loop .n) (t .loop-test .taken) (d .limit) _ _ _ _ _ _ _ _ (drew l d)
+          (r .draw-record .ensures (ready l d)) _ (r .before .before .before .filled .ensures) refl,
     )
 
 same-length : tie.Need-same-length Inv-loop μ-loop
-same-length c =
-    let s = c .before .before .before .before .before .before .before .before in
-    c .before .loop .inv .1 (s .pre) .emptied .room ∙ sym (s .pre .empty .room)
+same-length c = let d = start (c .before) .pre in drew (c .before) d .emptied .room ∙ sym (d .empty .room)
 
 same-length-2 : tie.Need-same-length-2 Inv-loop μ-loop
 same-length-2 c =
-    let s = c .before .before .before .before .before .before .before .before in
-    ap length (c .before .loop .inv .1 (s .pre) .wrote) ∙ into-length _ (s .args .out .now)
+    let s = start (c .before) in
+    ap length (drew (c .before) (s .pre) .wrote) ∙ into-length _ (s .args .out .now)
 
 returns : tie.Need-returns Inv-loop μ-loop
 returns c =
-    let l = c .before .loop in
-    let a = c .before .before .before .before .before .before .before .before .args in
-    let all : l .n ≡ length (a .cells .now) / 4 = omega (arith, l .inv .0, c .loop-test .left) in
-    λ d. drew-all (a .cells .now) (d .corners) (d .clearance) (d .passed) (l .n) all (d .limit) _ _ _ _ (l .inv .1 d)
+    let l = c .before in
+    let a = start l .args in
+    let all : l .loop .n ≡ length (a .cells .now) / 4 = omega (arith, l .loop .inv .0, c .loop-test .left) in
+    λ d. drew-all (a .cells .now) (d .corners) (d .clearance) (d .passed) (l .loop .n) all (d .limit) _ _ _ _ (drew l d)
 
 pub draw-leaves-spec : {M : Type 1} → statement M
 draw-leaves-spec =
