@@ -1,4 +1,4 @@
--- Rules of tables, each proved at all entries by one test that antt computes: a table of rows, and tables that are computed.
+-- The rule of a table, proved at all of its entries by one test that antt computes: of a table of rows, and of a function that has a table of its own.
 use mathlib.Core.Path.{_≡_, _∙_, ap, subst, sym}
 use mathlib.Core.Bool.{Bool, true, false}
 use mathlib.Core.List.{List, [], _∷_, map}
@@ -53,7 +53,7 @@ at-row rule m rows t w k h l =
     eqb→eq (getD r k 0) (rule w k)
     (at (λ k x. eqb x (rule w k)) 0 r (both-right (eqb (length r) m) (every (λ k x. eqb x (rule w k)) 0 r) ok) k (rw n l))
 
--- ---- two functions agree where their tables do
+-- ---- two functions agree where their tables do, as those of the code's digits and of the rule
 
 module _ {A : Type 0} where
   abbrev pub Alike : ℕ → (ℕ → A) → (ℕ → A) → Type 0

@@ -16,7 +16,7 @@ use Rattle.rules.specs.Outputs.{entriesRight}
 use Rattle.rules.specs.Closing.{cellEdgesOn}
 use Rattle.trace.specs.Trace.{meets}
 use Rattle.across.specs.Across.{sideNumber}
-use Rattle.faces.specs.Patterns.{hexDigit, wetDigit, stepFrom, patternOf, stepTo}
+use Rattle.faces.specs.Patterns.{wetDigit, stepFrom, patternOf, stepTo}
 
 -- the side of a leaf that a row is on
 abbrev pub rowSide : ℕ → Side
@@ -29,10 +29,6 @@ rowUpper r = Bool·beq (rowSide r .upper) (ltb r 6)
 -- the upper or the lower side of a cell on the axis of a side
 abbrev pub faceOn : Side → Bool → Cell → Face
 faceOn side upper c = face (cond upper (move (side .across) (size c) (c .low)) (c .low)) (c .level)
-
--- Twelve rows of four digits kept in three numbers, four rows in each: digit j of row r.
-unfoldable pub rowDigit : ℕ → ℕ → ℕ → ℕ → ℕ → ℕ
-rowDigit r j a b c = hexDigit (getD (a ∷ b ∷ c ∷ []) (r / 4) 0) (4 * (r % 4) + j)
 
 -- The numbers of its corners among the eight of the cell, and of its edges among the twelve: counted on the unit cell.
 abbrev pub unit : Cell

@@ -5,9 +5,9 @@ ghost use Prim.Native.Nat.{_+_, _*_, _/_, _≤_, _<_};
 ghost use lib.ListN.{length, getD};
 ghost use Rattle.base.specs.Lists.{bit};
 ghost use Rattle.trace.specs.Trace.{recorded};
-ghost use Rattle.faces.specs.Patterns.{hexDigit, wetDigit, stepFrom, firstEntry};
-ghost use Rattle.faces.specs.Faces.{rowDigit, rowCorner, rowEdge, rowPattern, edgeSteps, rowSteps, quarters, smallTableSteps};
-ghost use Rattle.faces.specs.Faces.{sideTableSteps, leafTableSteps, Fits, Roomy, Reaching};
+ghost use Rattle.faces.specs.Patterns.{hexDigit, rowDigit, wetDigit, stepFrom, firstEntry};
+ghost use Rattle.faces.specs.Faces.{rowCorner, rowEdge, rowPattern, edgeSteps, rowSteps, quarters, smallTableSteps, sideTableSteps};
+ghost use Rattle.faces.specs.Faces.{leafTableSteps, Fits, Roomy, Reaching};
 
 // For each of the sixteen wet patterns of a face (bit i: corner i is wet; corners go counter-clockwise, seen from outside the leaf), the edge to
 // which the step that enters by edge i goes; 4 where none enters. Edge i joins corner i and corner i + 1.

@@ -1,6 +1,6 @@
 -- `faces::quarter` meets its contract: the digits have the order of small faces.
 use mathlib.Core.Path.{refl, sym, _∙_, subst}
-use Prim.Native.Nat.{ℕ, _<_}
+use Prim.Native.Nat.{_<_}
 use lib.ListN.{getD}
 use borrow.Author.Needs.{needs}
 use Rattle.base.proofs.Lists.{in-get}

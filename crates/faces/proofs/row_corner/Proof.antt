@@ -2,7 +2,8 @@
 use mathlib.Core.Path.{refl, _∙_}
 use native.Mathlib.Omega.{arith}
 use borrow.Author.Needs.{needs}
-use Rattle.faces.specs.Faces.{rowDigit, cornerOn, rowCorner, unit}
+use Rattle.faces.specs.Patterns.{rowDigit}
+use Rattle.faces.specs.Faces.{cornerOn, rowCorner, unit}
 use Rattle.faces.proofs.Table.{alike-rows}
 use Rattle.faces.proofs.Rows.{numbers-few}
 use Rattle.faces.proofs.row_corner.Statement.{statement}

@@ -5,8 +5,7 @@ use mathlib.Core.List.{[], _∷_}
 use native.Mathlib.Omega.{arith}
 use lib.ListN.{getD}
 use borrow.Author.Needs.{needs}
-use Rattle.faces.specs.Patterns.{hexDigit}
-use Rattle.faces.specs.Faces.{rowDigit}
+use Rattle.faces.specs.Patterns.{hexDigit, rowDigit}
 use Rattle.faces.proofs.row_digit.Statement.{statement}
 use Rattle.faces.proofs.row_digit.Tie as tie
 
