@@ -100,7 +100,16 @@ fn draw_accepted(
     let mut across = [0u16; 12294];
     across::fill(cells, &mut across);
     let mut crossings = [0u16; 26637];
-    crossings::fill(cells, corners, clearance, &wets, &slots, octants, laid, &mut crossings);
+    crossings::fill(
+        cells,
+        corners,
+        clearance,
+        &wets,
+        &slots,
+        octants,
+        laid,
+        &mut crossings,
+    );
     let room = triangles.len();
     let write = 3 * n <= points.len();
     let m = triangles::draw(cells, &across, &crossings, &twins, n, write, triangles);
@@ -127,13 +136,7 @@ pub fn draw(
 {
     let mut laid = [0u64; 2049];
     let mut octants = [0u16; 16392];
-    let number = checks::refusal(
-        cells,
-        corners,
-        clearance,
-        &mut laid,
-        &mut octants,
-    );
+    let number = checks::refusal(cells, corners, clearance, &mut laid, &mut octants);
     if number != 0 {
         return Drawn {
             number: number,

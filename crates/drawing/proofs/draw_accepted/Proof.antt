@@ -68,8 +68,7 @@ fill-requires c κs =
     let s = start (c .before .before .before .before .before) in
     let a = s .args in
     let ok = s .pre .0 in
-    let few = few-cells (a .cells .now) (a .corners .now) (a .clearance) ok in
-    (
+    let few = few-cells (a .cells .now) (a .corners .now) (a .clearance) ok in (
       entries-follow (a .cells .now) (a .corners .now) (a .clearance) ok,
       (none-deep (a .cells .now) (a .corners .now) (a .clearance) ok, (few, search (needs, few))),
     )
@@ -90,8 +89,7 @@ fill-requires-2 c κs =
     let a = s .args in
     let f = t .fill-tables .ensures in
     let (laid, room, octants) = s .pre .1 in
-    let few = few-cells (a .cells .now) (a .corners .now) (a .clearance) (s .pre .0) in
-    (
+    let few = few-cells (a .cells .now) (a .corners .now) (a .clearance) (s .pre .0) in (
       record { fit = s .pre .0; marks = f .wet; points = f .slot; cell-corners = octants; cell-levels = laid; laid-room = room },
       search (needs, few),
     )

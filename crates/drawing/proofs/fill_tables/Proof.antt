@@ -20,8 +20,7 @@ numbered c = c .before .before .before .before .before .before .before .before .
 fill-wets-requires : tie.Need-fill-wets-requires
 fill-wets-requires c κs =
     let s = c .before .before .before .before .before .before .before .before .before in
-    let a = s .args in
-    (
+    let a = s .args in (
       corners-rise (a .cells .now) (a .corners .now) (a .clearance) (s .pre .0),
       (s .pre .1 .1 .1 .0, few-corners (a .cells .now) (a .corners .now) (a .clearance) (s .pre .0)),
     )
