@@ -1,26 +1,16 @@
 -- The twelve edges of a cell by its corners, over all of them at once.
-use Prim.Native.Nat.{ℕ, _*_, _/_, _%_, _^_, _<_}
+use Prim.Native.Nat.{ℕ, _/_, _<_}
 use mathlib.Core.Path.{_≡_, refl, sym, ap, _∙_}
 use mathlib.Core.List.{List, map}
-use native.Mathlib.Omega.{arith}
-use lib.Dec.{T, eqb, eqb→eq, ltb, ltb→lt}
-use lib.ListN.{length, getD}
-use Rattle.base.specs.Lists.{all, count}
+use lib.Dec.{ltb, ltb→lt}
+use lib.ListN.{getD}
+use Rattle.base.specs.Lists.{count}
 use Rattle.base.specs.Grid.{Place, origin, X, axisOf, move}
-use Rattle.base.proofs.Lists.{all→in, in-get, count-in}
+use Rattle.base.proofs.Lists.{all→in, in-get}
 use Rattle.base.proofs.Below.{get-table}
 use Rattle.rules.specs.Survey.{Cell, size, cellCorners}
 use Rattle.rules.specs.Edges.{CellEdge, edge}
 use Rattle.edges.specs.Tables.{cellEdges, starts, ends}
-
--- the entries of a list are the digits of n in base sixteen
-abbrev Digits : ℕ → List ℕ → Type 0
-Digits n ds = T (all (λ i. eqb (n / 2 ^ (4 * i) % 16) (getD ds i 0)) (count 0 (length ds)))
-
-digit : (n : ℕ) (ds : List ℕ) → Digits n ds → (i : ℕ) → i < length ds → n / 2 ^ (4 * i) % 16 ≡ getD ds i 0
-digit n ds t i h =
-    eqb→eq (n / 2 ^ (4 * i) % 16) (getD ds i 0)
-    (all→in (λ i. eqb (n / 2 ^ (4 * i) % 16) (getD ds i 0)) (count 0 (length ds)) t i (count-in (length ds) 0 i (omega arith) (omega arith)))
 
 module _ (e : ℕ) (g : e < 12) where
   pub start-below : getD starts e 0 < 8
@@ -28,12 +18,6 @@ module _ (e : ℕ) (g : e < 12) where
 
   pub end-below : getD ends e 0 < 8
   end-below = ltb→lt (getD ends e 0) 8 (all→in (λ i. ltb i 8) ends tt (getD ends e 0) (in-get ends e 0 g))
-
-  pub start-digit : 0x321051406420 / 2 ^ (4 * e) % 16 ≡ getD starts e 0
-  start-digit = digit 0x321051406420 starts tt e g
-
-  pub end-digit : 0x765473627531 / 2 ^ (4 * e) % 16 ≡ getD ends e 0
-  end-digit = digit 0x765473627531 ends tt e g
 
   module _ (c : Cell) where
     abbrev corner : ℕ → Place

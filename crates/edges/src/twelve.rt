@@ -1,5 +1,4 @@
-// The twelve edges of a cell, four for each axis: the corners at which each starts and ends. They are digits of one number, since a table would be made anew at
-// every look.
+// The twelve edges of a cell, four for each axis: the corners at which each starts and ends.
 ghost use mathlib.Core.Path.{_≡_};
 ghost use Prim.Native.Nat.{_<_};
 ghost use lib.ListN.{getD};
@@ -10,7 +9,7 @@ pub fn start_of(e: usize) -> usize
     requires { ⌜ e < 12 ⌝ }
     ensures { λ r. ⌜ (r ≡ getD starts e 0) × (r < 8) ⌝ }
 {
-    (0x3210_5140_6420 >> (4 * e)) % 16
+    digits::digit(0x3210_5140_6420, e)
 }
 
 // The corner at which edge `e` ends.
@@ -18,5 +17,5 @@ pub fn end_of(e: usize) -> usize
     requires { ⌜ e < 12 ⌝ }
     ensures { λ r. ⌜ (r ≡ getD ends e 0) × (r < 8) ⌝ }
 {
-    (0x7654_7362_7531 >> (4 * e)) % 16
+    digits::digit(0x7654_7362_7531, e)
 }

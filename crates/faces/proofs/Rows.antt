@@ -16,7 +16,7 @@ use Rattle.rules.specs.Steps.{Side, upperSide, lowerSide, Face, face, faceCorne
 use Rattle.across.specs.Across.{sideNumber}
 use Rattle.crossings.specs.Crossings.{edgeAt}
 use Rattle.faces.specs.Faces.{rowSide, rowUpper, faceOn, cornerOn, edgeOn, rowCorner, rowEdge}
-use Rattle.faces.proofs.Table.{Alike, alike}
+use Rattle.digits.proofs.Alike.{Alike, alike}
 
 abbrev sideOn : Axis → Bool → Side
 sideOn a true = upperSide a

@@ -1,5 +1,5 @@
 -- The rule of a table, proved at all of its entries by one test that antt computes: of a table of rows, and of a function that has a table of its own.
-use mathlib.Core.Path.{_≡_, _∙_, ap, subst, sym}
+use mathlib.Core.Path.{_≡_, _∙_, subst, sym}
 use mathlib.Core.Bool.{Bool, true, false}
 use mathlib.Core.List.{List, [], _∷_, map}
 use Prim.Native.Nat.{ℕ, zero, suc, _+_, _<_}
@@ -7,7 +7,7 @@ use native.Mathlib.Nat.{add-zero, zero-add, add-suc, suc-add, le-of-suc-le-suc, 
 use lib.Dec.{T, eqb, eqb→eq}
 use lib.ListN.{length, getD}
 use Rattle.base.specs.Lists.{count}
-use Rattle.base.proofs.Below.{get-table}
+use Rattle.digits.proofs.Alike.{Alike, alike}
 
 abbrev both : Bool → Bool → Bool
 both true b = b
@@ -53,16 +53,7 @@ at-row rule m rows t w k h l =
     eqb→eq (getD r k 0) (rule w k)
     (at (λ k x. eqb x (rule w k)) 0 r (both-right (eqb (length r) m) (every (λ k x. eqb x (rule w k)) 0 r) ok) k (rw n l))
 
--- ---- two functions agree where their tables do, as those of the code's digits and of the rule
-
-module _ {A : Type 0} where
-  abbrev pub Alike : ℕ → (ℕ → A) → (ℕ → A) → Type 0
-  Alike n f g = map f (count 0 n) ≡ map g (count 0 n)
-
-  pub alike : (d : A) (n : ℕ) (f g : ℕ → A) → Alike n f g → (j : ℕ) → j < n → f j ≡ g j
-  alike d n f g e j h = sym (get-table f d n j h) ∙ ap (λ l. getD l j d) e ∙ get-table g d n j h
-
--- the same for twelve rows of four
+-- two functions agree where their tables of twelve rows of four do
 abbrev pub row : (ℕ → ℕ → ℕ) → ℕ → List ℕ
 row f r = map (f r) (count 0 4)
 

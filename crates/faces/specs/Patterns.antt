@@ -1,19 +1,16 @@
--- Digits of numbers: small tables in base sixteen and wet marks in base two; and the sixteen wet patterns of a face: digit i says that corner i is wet.
+-- Small tables as digits of numbers, wet marks as digits in base two, and the sixteen wet patterns of a face: digit i says that corner i is wet.
 use Prim.Native.Nat.{ℕ, _+_, _*_, _/_, _%_, _^_}
 use mathlib.Core.Bool.{Bool, true, cond}
 use mathlib.Core.List.{List, [], _∷_}
 use lib.Dec.{eqb, ltb}
 use lib.ListN.{getD}
 use Rattle.base.specs.Lists.{position, count, bit}
+use Rattle.digits.specs.Digits.{digitOf}
 use Rattle.rules.specs.Steps.{Step, stepIn}
-
--- digit i of a number in base sixteen
-abbrev pub hexDigit : ℕ → ℕ → ℕ
-hexDigit n i = n / 16 ^ i % 16
 
 -- digit j of row r, where twelve rows of four digits are kept in three numbers, four rows in each
 unfoldable pub rowDigit : ℕ → ℕ → ℕ → ℕ → ℕ → ℕ
-rowDigit r j a b c = hexDigit (getD (a ∷ b ∷ c ∷ []) (r / 4) 0) (4 * (r % 4) + j)
+rowDigit r j a b c = digitOf (getD (a ∷ b ∷ c ∷ []) (r / 4) 0) (4 * (r % 4) + j)
 
 -- digit i of a number in base two is 1
 abbrev pub wetDigit : ℕ → ℕ → Bool

@@ -1,11 +1,11 @@
 // The face steps of a leaf: small faces by going down into the cell across, and the steps in each, recorded in the leaf's trace.
-// Uses records and trace, and the tables that across and crossings describe.
+// Uses digits, records and trace, and the tables that across and crossings describe.
 ghost use mathlib.Core.Path.{_≡_};
 ghost use Prim.Native.Nat.{_+_, _*_, _/_, _≤_, _<_};
 ghost use lib.ListN.{length, getD};
 ghost use Rattle.base.specs.Lists.{bit};
 ghost use Rattle.trace.specs.Trace.{recorded};
-ghost use Rattle.faces.specs.Patterns.{hexDigit, rowDigit, wetDigit, stepFrom, firstEntry};
+ghost use Rattle.faces.specs.Patterns.{rowDigit, wetDigit, stepFrom, firstEntry};
 ghost use Rattle.faces.specs.Faces.{rowCorner, rowEdge, rowPattern, edgeSteps, rowSteps, quarters, smallTableSteps, sideTableSteps};
 ghost use Rattle.faces.specs.Faces.{leafTableSteps, Fits, Roomy, Reaching};
 
@@ -45,26 +45,18 @@ fn wide(x: u8) -> usize
     x as usize
 }
 
-// Digit i of a number in base sixteen. The small tables below are digits of numbers: a table of arrays would be made anew at every look.
-fn hex_digit(number: usize, i: usize) -> usize
-    requires { ⌜ i < 16 ⌝ }
-    ensures { λ r. ⌜ r ≡ hexDigit number i ⌝ }
-{
-    (number >> (4 * i)) % 16
-}
-
 // Digit j of a row, where twelve rows of four digits are kept in three numbers, the first digit lowest: rows 0 to 3 in a, 4 to 7 in b, 8 to 11 in c.
 fn row_digit(row: usize, j: usize, a: usize, b: usize, c: usize) -> usize
     requires { ⌜ (row < 12) × (j < 4) ⌝ }
     ensures { λ r. ⌜ r ≡ rowDigit row j a b c ⌝ }
 {
     if row < 4 {
-        return hex_digit(a, 4 * row + j);
+        return digits::digit(a, 4 * row + j);
     }
     if row < 8 {
-        return hex_digit(b, 4 * (row - 4) + j);
+        return digits::digit(b, 4 * (row - 4) + j);
     }
-    hex_digit(c, 4 * (row - 8) + j)
+    digits::digit(c, 4 * (row - 8) + j)
 }
 
 // The number of corner j of a row among the eight of its cell: rows 0 to 5 are a leaf's own sides, rows 6 to 11 the sides towards it of the cells across.
@@ -100,7 +92,7 @@ fn quarter(i: usize) -> usize
     requires { ⌜ i < 4 ⌝ }
     ensures { λ r. ⌜ (r ≡ getD quarters i 0) × (r < 4) ⌝ }
 {
-    hex_digit(0x2310, i)
+    digits::digit(0x2310, i)
 }
 
 // 1 if corner j of a row is wet by the mask of its cell's wet corners, else 0.
@@ -144,7 +136,7 @@ fn first_entry(pattern: usize) -> usize
     requires { ⌜ pattern < 16 ⌝ }
     ensures { λ r. ⌜ r ≡ firstEntry pattern ⌝ }
 {
-    hex_digit(0x4011_2022_3011_3034, pattern)
+    digits::digit(0x4011_2022_3011_3034, pattern)
 }
 
 // Records the steps in a row of record m. None enters where all corners are wet or all are dry; else one enters by the first edge from a dry corner to a

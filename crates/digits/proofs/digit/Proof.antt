@@ -1,10 +1,10 @@
--- `faces::hex_digit` meets its contract: a shift by four places divides by sixteen.
+-- `digits::digit` meets its contract: a shift by four places divides by sixteen.
 use Prim.Native.Nat.{_*_, _/_, _%_, _^_}
 use mathlib.Core.Path.{refl, ap}
 use borrow.Author.Needs.{needs}
-use Rattle.faces.proofs.Table.{alike}
-use Rattle.faces.proofs.hex_digit.Statement.{statement}
-use Rattle.faces.proofs.hex_digit.Tie as tie
+use Rattle.digits.proofs.Alike.{alike}
+use Rattle.digits.proofs.digit.Statement.{statement}
+use Rattle.digits.proofs.digit.Tie as tie
 
 mul-result : tie.Need-mul-result
 mul-result c = search needs
@@ -15,5 +15,5 @@ shr-result c = search needs
 returns : tie.Need-returns
 returns c = ap (λ d. c .args .number / d % 16) (alike 0 16 (λ i. 2 ^ (4 * i)) (λ i. 16 ^ i) refl (c .args .i) (c .pre))
 
-pub hex-digit-spec : {M : Type 1} → statement M
-hex-digit-spec = tie.close (tie.spec mul-result shr-result returns)
+pub digit-spec : {M : Type 1} → statement M
+digit-spec = tie.close (tie.spec mul-result shr-result returns)
