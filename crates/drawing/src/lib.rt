@@ -83,6 +83,7 @@ fn draw_accepted(
         (now (points .exit)) (now (triangles .exit)) ⌝ }
 {
     let mut wets = [0u8; 4872];
+    // 11 everywhere: no edge starts at any slot yet.
     let mut slots = [11u16; 43848];
     let mut carriers = [0u16; 14616];
     let mut twins = [0u16; 14616];
