@@ -1,7 +1,7 @@
 // The refusals of a survey: document 01, "Outputs and refusals", checks 1 to 8 in their order. Uses records, cells and octants.
 ghost use mathlib.Core.Path.{_≡_};
 ghost use mathlib.Core.Bool.{true, not};
-ghost use Prim.Native.Nat.{ℕ, _+_, _*_, _≤_, _<_, _/_};
+ghost use Prim.Native.Nat.{_+_, _*_, _≤_, _<_, _/_};
 ghost use lib.ListN.{length, getD, set, take};
 ghost use lib.Dec.{ltb, eqb};
 ghost use Rattle.base.specs.Lists.{all, any, count as upTo};

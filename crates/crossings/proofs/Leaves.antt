@@ -1,17 +1,16 @@
 -- Taking up a leaf: its corners by their records, and its wet corners as one number.
-use Prim.Native.Nat.{ℕ, zero, suc, _+_, _*_, _/_, _%_, _^_, _≤_, _<_}
+use Prim.Native.Nat.{ℕ, zero, suc, _+_, _*_, _^_, _≤_, _<_}
 use mathlib.Core.Path.{_≡_, sym, ap, _∙_}
 use mathlib.Core.Bool.{Bool, true}
 use mathlib.Core.List.{List, [], _∷_, map}
-use native.Mathlib.Nat.{pow-succ', two-pow-succ, div-div-eq-div-mul}
+use native.Mathlib.Nat.{two-pow-succ}
 use native.Mathlib.Omega.{arith}
-use lib.ListN.{length, getD, drop, length-map, length-drop, drop-of-length-le, List·getD-map}
+use lib.ListN.{length, getD, drop, length-map, length-drop, drop-of-length-le}
 use lib.Ieee.{Float}
 use Rattle.base.specs.Lists.{bit}
-use Rattle.base.specs.Grid.{origin}
 use Rattle.base.proofs.Tests.{bit-le}
 use Rattle.base.proofs.Below.{rest}
-use Rattle.rules.specs.Survey.{Cell, cellCorners, cornersOf, cornerRecord, cornerAt, leafOf, wet, wetAt, Survey}
+use Rattle.rules.specs.Survey.{Cell, cornersOf, cornerRecord, cornerAt, leafOf, wet, wetAt}
 use Rattle.rules.specs.Outputs.{rising, accepted, surveyOf}
 use Rattle.rules.specs.declared.Corner.{Corner}
 use Rattle.rules.specs.declared.Leaf.{Leaf}
@@ -48,17 +47,6 @@ binary-less (suc n) [] h = omega (arith, binary-less n [] (omega arith), two-pow
 binary-less zero (b ∷ bs) h = absurd (omega arith)
 binary-less (suc n) (b ∷ bs) h = omega (arith, binary-less n bs (omega arith), two-pow-succ n, bit-le b true (λ u. tt))
 
--- mark i is digit i
-binary-digit : (i : ℕ) (bs : List Bool) (d : Bool) → i < length bs → binary bs / 2 ^ i % 2 ≡ bit (getD bs i d)
-binary-digit i [] d h = absurd (omega arith)
-binary-digit zero (b ∷ bs) d h = omega (arith, bit-le b true (λ u. tt))
-binary-digit (suc i) (b ∷ bs) d h =
-    let half : (bit b + 2 * binary bs) / 2 ≡ binary bs = omega (arith, bit-le b true (λ u. tt)) in
-    ap (λ m. (bit b + 2 * binary bs) / m % 2) (pow-succ' 2 i)
-    ∙ ap (λ m. m % 2) (sym (div-div-eq-div-mul (bit b + 2 * binary bs) 2 (2 ^ i)))
-    ∙ ap (λ m. m / 2 ^ i % 2) half
-    ∙ binary-digit i bs d (omega arith)
-
 -- no corner is left after the eighth
 pub none-left : (f : Corner → Bool) (l : List Corner) → length l ≡ 8 → 0 ≡ binary (map f (drop 8 l))
 none-left f l eight = ap (λ (r : List Corner). binary (map f r)) (sym (drop-of-length-le l {i = 8} (omega arith)))
@@ -73,16 +61,6 @@ module _ (f : Corner → Bool) (l : List Corner) (eight : length l ≡ 8) (i : �
   mask-more d h = sym (ap (λ (r : List Corner). binary (map f r)) (rest l i d (omega arith)))
 
 -- ---- the wet corners of a cell
-
-pub mask-less : (s : Survey) (c : Cell) → wetMask s c < 256
-unfolding wetMask
-mask-less s c = binary-less 8 (map (s .isWet) (cellCorners c)) (omega arith)
-
--- corner i is wet if digit i is 1
-pub wet-digit : (s : Survey) (c : Cell) (i : ℕ) → i < 8 → wetMask s c / 2 ^ i % 2 ≡ bit (s .isWet (getD (cellCorners c) i origin))
-unfolding wetMask
-wet-digit s c i h =
-    binary-digit i (map (s .isWet) (cellCorners c)) (s .isWet origin) h ∙ ap bit (List·getD-map (s .isWet) (cellCorners c) i origin)
 
 pub eight-corners : (tk : List ℕ) (c : Cell) (l : Leaf) → l ≡ leafOf (cornersOf tk) c → length (l .corners) ≡ 8
 unfolding leafOf

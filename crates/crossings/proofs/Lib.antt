@@ -1,4 +1,3 @@
 pub mod Leaves
 pub mod Twelve
 pub mod Filling
-pub mod Points

@@ -1,20 +1,17 @@
 -- The points of a cell's twelve edges, by the corner records at their ends.
 use Prim.Native.Nat.{ℕ, _/_, _<_}
-use mathlib.Core.Path.{_≡_, refl, sym, ap, _∙_, subst}
+use mathlib.Core.Path.{_≡_, sym, ap, _∙_, subst}
 use mathlib.Core.Bool.{true, false, not, cond}
-use mathlib.Core.List.{List, [], _∷_, map}
-use lib.Dec.{T, eqb, ltb, ltb→lt}
+use mathlib.Core.List.{List}
+use lib.Dec.{T, eqb}
 use lib.ListN.{length, getD}
 use lib.Ieee.{Float}
 use borrow.Author.Tests.{eq-eqb, ne-eqb}
-use Rattle.base.specs.Lists.{collect, count}
-use Rattle.base.specs.Grid.{Place, origin, X, axes, axisOf, move}
+use Rattle.base.specs.Grid.{Place, origin, X, axisOf, move}
 use Rattle.base.proofs.Tests.{→true}
-use Rattle.base.proofs.Lists.{all→in, in-get, collect-in}
-use Rattle.base.proofs.Below.{get-table}
-use Rattle.rules.specs.Survey.{Cell, cell, size, cellCorners, cellsOf, cornersOf, wetAt}
+use Rattle.base.proofs.Lists.{in-get, collect-in}
+use Rattle.rules.specs.Survey.{cell, size, cellsOf, cornersOf, wetAt}
 use Rattle.rules.specs.Edges.{CellEdge, edge, isEdge, odd, pointOf}
-use Rattle.rules.specs.Closing.{cellEdgesOn}
 use Rattle.rules.specs.Outputs.{accepted, surveyOf}
 use Rattle.records.specs.Keys.{placesOf}
 use Rattle.cells.specs.Laid.{cellAt}

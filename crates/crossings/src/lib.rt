@@ -1,4 +1,5 @@
-// The points of every cell's twelve edges and its wet corners, as one table: what the faces of leaves are drawn from. Uses records, octants and edges.
+// The points of every cell's twelve edges and its wet corners, as one table: what the faces of leaves are drawn from. Uses records, cells and
+// edges, and the table that octants describes.
 ghost use mathlib.Core.Path.{_≡_};
 ghost use mathlib.Core.Bool.{true};
 ghost use mathlib.Core.List.{map};

@@ -1,4 +1,4 @@
-// Small tables of numbers as the digits of one number in base sixteen: the compiler's back end would make a `const` table anew at every look. Uses nothing.
+// Small tables of numbers as the digits of one number in base sixteen: the compiler's back end would make a `const` table anew at every look. Uses base.
 ghost use mathlib.Core.Path.{_≡_};
 ghost use Prim.Native.Nat.{_<_};
 ghost use Rattle.digits.specs.Digits.{digitOf};

@@ -13,7 +13,6 @@ use Rattle.rules.specs.Survey.{entries, cellsOf}
 use Rattle.rules.specs.Outputs.{entriesRight, rising, surveyRefusal, accepted}
 use Rattle.octree.proofs.Accepted.{Checked, checked, accepted→}
 use Rattle.records.specs.Keys.{placesOf}
-use Rattle.records.proofs.Keys.{length-places}
 use Rattle.cells.specs.Laid.{tooDeep}
 use Rattle.edges.specs.Tables.{Levels}
 use Rattle.edges.proofs.Notes.{none-noted}

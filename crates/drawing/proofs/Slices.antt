@@ -1,21 +1,19 @@
--- What stands in the lent slices after drawing: triangles written piece by piece, each into the part not yet filled, as far as the slice goes.
---     triangles-back     the triangles of a slice that begins with their numbers
---     into-nil, into-length, into-more      pieces written one after the other
+-- The lent slices after drawing.
+--     room, triangles-back                         what was written is read back
+--     points-short, triangles-short, none-short    which slice is too short
 -- Assumes nothing.
-use Prim.Native.Nat.{ℕ, zero, suc, _+_, _-_, _≤_, _<_, min}
+use Prim.Native.Nat.{ℕ, _+_, _-_, _≤_, _<_}
 use native.Mathlib.Omega.{arith}
-use mathlib.Core.Path.{_≡_, refl, sym, ap, _∙_}
+use mathlib.Core.Path.{_≡_, refl, sym, ap}
 use mathlib.Core.Bool.{Bool, cond}
-use mathlib.Core.List.{List, [], _∷_, _++_, append-nil}
+use mathlib.Core.List.{List, [], _∷_, _++_}
 use lib.Dec.{ltb}
-use lib.ListN.{length, take, drop, length-append, length-drop}
-use lib.Seq.{take-all, take-nil, drop-nil, drop-length}
+use lib.ListN.{length, drop, length-append}
 use borrow.Author.Tests.{lt-ltb, le-ltb}
 use Rattle.base.specs.Lists.{collect}
 use Rattle.rules.specs.Steps.{Triangle}
 use Rattle.rules.specs.Outputs.{numbers, firstOf, written}
 use Rattle.rules.specs.Closing.{trianglesIn}
-use Rattle.loops.specs.Loops.{into}
 
 -- a slice written over from its front has room for what was written
 pub room : {A : Type 0} (new slice : List A) → length new ≤ length (written new slice)

@@ -1,5 +1,5 @@
-// The drawing call: the checks, the tables, all triangles, the refusals of slices that are too short, and only then the lent slices.
-// Uses checks, edges, twins, across, crossings and triangles.
+// The drawing call: the checks, the tables, all triangles, the refusals of slices that are too short, the points. The slices are written only where both have
+// room. Uses checks, edges, twins, across, crossings and triangles.
 ghost use mathlib.Core.Path.{_≡_};
 ghost use mathlib.Core.Bool.{true};
 ghost use mathlib.Core.List.{[], _∷_};

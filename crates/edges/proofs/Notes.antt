@@ -6,11 +6,11 @@ use mathlib.Core.Bool.{Bool, true, false, cond}
 use mathlib.Core.List.{List, [], _∷_, _++_}
 use native.Mathlib.Decide.{ℕ-discrete}
 use native.Mathlib.Omega.{arith}
-use lib.Dec.{T, eqb, eqb→eq, ltb, ltb→lt}
+use lib.Dec.{T, eqb, eqb→eq, ltb}
 use lib.ListN.{length, getD, drop, replicate, length-replicate, getD-replicate}
 use borrow.Author.Tests.{lt-ltb, le-ltb}
 use Rattle.base.specs.Lists.{collect}
-use Rattle.base.specs.Grid.{Place, origin, Axis, X, move, axisOf, axisNumber, same, octants}
+use Rattle.base.specs.Grid.{Place, origin, Axis, X, move, axisOf, axisNumber, same}
 use Rattle.base.proofs.Tests.{and→, either, true→, below}
 use Rattle.base.proofs.Places.{same→}
 use Rattle.base.proofs.Below.{rest}

@@ -20,10 +20,19 @@ use Rattle.rules.specs.Edges.{pointEdges}
 use Rattle.rules.specs.Outputs.{surveyOf}
 use Rattle.records.specs.Keys.{placesOf}
 use Rattle.edges.specs.Tables.{edgesOf, lowestIn, placeAt, crossedSlot, slotsBelow, numberAt, UpperEnd, Levelled, Numbered, Carriers}
-use Rattle.edges.specs.Numbering.{NumberedBelow}
 use Rattle.edges.proofs.Entries.{withNumber, number-size, number-here, number-other, number-low, number-high, number-far}
 use Rattle.edges.proofs.Levels.{Edged}
 use Rattle.edges.proofs.Points.{below-next, point-count}
+
+-- what the tables hold when the slots below i have been passed, and n points were found
+pub record NumberedBelow (tc tk : List ℕ) (clearance : Float) (slots carriers : List ℕ) (n i : ℕ) : Type 0 where
+  pub levelled : Levelled tc tk slots
+  pub room : length carriers ≡ 14616
+  pub upto : i ≤ 14616
+  pub few : n ≤ i
+  pub counted : n ≡ length (slotsBelow (surveyOf tc tk clearance) i)
+  pub number : (j : ℕ) → j < i → T (crossedSlot (surveyOf tc tk clearance) j) → numberAt slots j ≡ length (slotsBelow (surveyOf tc tk clearance) j)
+  pub carrier : (v : ℕ) → v < n → getD carriers v 0 ≡ getD (slotsBelow (surveyOf tc tk clearance) i) v 0
 
 keep-le : {A : Type 0} (f : A → Bool) (xs : List A) → length (keep f xs) ≤ length xs
 keep-le f [] = omega arith

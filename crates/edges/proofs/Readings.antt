@@ -61,9 +61,6 @@ far-read tc tk slots known n k i e g h o =
 -- ---- crossed slots
 
 module _ (s : Survey) (i : ℕ) where
-  axis-at : Axis
-  axis-at = axisOf (i / 4872)
-
   pub slot-outside : length (s .places) ≤ i % 4872 → crossedSlot s i ≡ false
   unfolding crossedSlot
   slot-outside h = rw (le-ltb (i % 4872) (length (s .places)) h)

@@ -13,7 +13,7 @@ use Rattle.base.specs.Lists.{any}
 use Rattle.base.specs.Grid.{Place, Axis, axisOf, same}
 use Rattle.base.proofs.Tests.{either}
 use Rattle.rules.specs.Survey.{cellsOf, Survey}
-use Rattle.rules.specs.Edges.{edge, isEdge}
+use Rattle.rules.specs.Edges.{isEdge}
 use Rattle.rules.specs.Outputs.{accepted, surveyOf}
 use Rattle.records.specs.Keys.{keyOf, placesOf, recordAt, Short}
 use Rattle.records.proofs.Keys.{Bytes}

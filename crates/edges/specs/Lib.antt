@@ -1,4 +1,3 @@
 pub mod Tables
 pub mod Searching
 pub mod Noting
-pub mod Numbering

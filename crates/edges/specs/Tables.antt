@@ -22,15 +22,15 @@ use Rattle.records.specs.Keys.{placesOf}
 abbrev pub cellEdges : Cell → List CellEdge
 cellEdges c = collect (cellEdgesOn c) axes
 
+unfoldable pub edgesOf : List Cell → List CellEdge
+edgesOf cells = collect cellEdges cells
+
 -- the corners of a cell, of eight, at which its twelve edges start and end
 abbrev pub starts : List ℕ
 starts = 0 ∷ 2 ∷ 4 ∷ 6 ∷ 0 ∷ 4 ∷ 1 ∷ 5 ∷ 0 ∷ 1 ∷ 2 ∷ 3 ∷ []
 
 abbrev pub ends : List ℕ
 ends = 1 ∷ 3 ∷ 5 ∷ 7 ∷ 2 ∷ 6 ∷ 3 ∷ 7 ∷ 4 ∷ 5 ∷ 6 ∷ 7 ∷ []
-
-unfoldable pub edgesOf : List Cell → List CellEdge
-edgesOf cells = collect cellEdges cells
 
 -- the edge starts at p on axis a
 abbrev pub startsAt : Axis → Place → CellEdge → Bool
@@ -91,7 +91,7 @@ pub record UpperEnd (tk : List ℕ) (a : Axis) (k l m : ℕ) : Type 0 where
   pub place : placeAt (placesOf tk) m ≡ move a (2 ^ l) (placeAt (placesOf tk) k)
 
 -- What is known of slot i stands in three elements of one table, from 3 i on: the lowest level plus 16 times the highest; the corner record at the upper end
--- of the edge of the lowest level; how many crossed slots come before it.
+-- of the edge of the lowest level; how many crossed slots come before it, where it is crossed.
 unfoldable pub lowestAt : List ℕ → ℕ → ℕ
 lowestAt slots i = getD slots (3 * i) 0 % 16
 

@@ -1,5 +1,5 @@
 // Edges and crossing points of a survey: the table of slots (levels and numbers), the point of an odd edge, and the writer of all points.
-// Uses records, reader, cells, checks, octants and places. specs/ says what each table holds.
+// Uses digits, records, reader, cells and places, and the tables that cells and octants describe. specs/ says what each table holds.
 ghost use mathlib.Core.Path.{_≡_};
 ghost use mathlib.Core.Bool.{true};
 ghost use mathlib.Core.List.{[]};

@@ -28,7 +28,7 @@ pub fn far(slots: &[u16], slot: usize) -> u16
     slots[3 * slot + 1]
 }
 
-// How many crossed slots come before a slot.
+// How many crossed slots come before a slot, where that is crossed.
 pub fn number(slots: &[u16], slot: usize) -> u16
     requires { ⌜ (length (now slots) ≡ 43848) × (slot < 14616) ⌝ }
     ensures { λ r. ⌜ r ≡ numberAt (now (slots .entry)) slot ⌝ }

@@ -8,20 +8,18 @@ use native.Mathlib.Omega.{arith}
 use lib.Dec.{T, eqb, ltb}
 use lib.Ieee.{Float}
 use borrow.Author.Tests.{eq-eqb, ne-eqb, lt-ltb, le-ltb}
-use Rattle.base.specs.Lists.{any, first, count}
+use Rattle.base.specs.Lists.{first, count}
 use Rattle.base.specs.Grid.{Place, Axis, along, axisOf}
-use Rattle.base.proofs.Tests.{→true, true→, either, false→, eq→eqb, not-both}
-use Rattle.rules.specs.Survey.{cellsOf, cornersOf, wetAt, entries, Survey}
+use Rattle.base.proofs.Tests.{→true, true→, either, eq→eqb, not-both}
+use Rattle.rules.specs.Survey.{cellsOf, cornersOf, wetAt, Survey}
 use Rattle.rules.specs.Edges.{isEdge, odd, numberOf, carrier, Spot, spotOn}
-use Rattle.rules.specs.Outputs.{firstOf, checks, accepted, surveyOf, entriesRight, levelOf, Enquired, refused, even, crossing, enquiry}
+use Rattle.rules.specs.Outputs.{firstOf, checks, accepted, surveyOf, levelOf, Enquired, refused, even, crossing, enquiry}
 use Rattle.records.specs.Keys.{keyOf, Short}
-use Rattle.cells.specs.Laid.{tooDeep}
 use Rattle.octree.specs.Lawful.{Lawful}
-use Rattle.octree.proofs.Accepted.{checked, lawful, numbered, first-append}
+use Rattle.octree.proofs.Accepted.{lawful, numbered, first-append}
 use Rattle.octree.proofs.Edges.{edge→}
 use Rattle.octree.proofs.Aligned.{corner-place}
 use Rattle.enquiry.specs.Enquiry.{edgeAnswer}
-use Rattle.edges.proofs.Readings.{no-refusal}
 
 -- ---- the level of a length
 
@@ -90,12 +88,6 @@ module _ (tc tk : List ℕ) (clearance : Float) (a : Axis) (p : Place) (l : ℕ)
 module _ (tc tk : List ℕ) (clearance : Float) (ok : accepted tc tk clearance ≡ true) where
   law : Lawful (surveyOf tc tk clearance)
   law = lawful tc tk clearance (→true ok)
-
-  pub entries-good : entriesRight 0 0 (entries tc) ≡ true
-  entries-good = true→ (entriesRight 0 0 (entries tc)) (checked tc tk (no-refusal tc tk clearance ok) .entries-right)
-
-  pub none-deep : any tooDeep (cellsOf tc) ≡ false
-  none-deep = false→ (any tooDeep (cellsOf tc)) (checked tc tk (no-refusal tc tk clearance ok) .units-whole)
 
   -- no edge starts outside the box
   pub far-off : (a b : Axis) (p : Place) (l : ℕ) → 1024 < along b p → isEdge (cellsOf tc) a p l ≡ false

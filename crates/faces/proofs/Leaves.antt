@@ -20,7 +20,7 @@ use Rattle.base.proofs.Lists.{in-get, in-count, position-of}
 use Rattle.base.proofs.Below.{any-position}
 use Rattle.base.proofs.Places.{same→, along-put}
 use Rattle.rules.specs.Survey.{Cell, cellsOf, Survey}
-use Rattle.rules.specs.Steps.{Side, face, sideLow, splitAcross, faceSteps, leafSteps}
+use Rattle.rules.specs.Steps.{Side, sideLow, splitAcross, faceSteps, leafSteps}
 use Rattle.rules.specs.Outputs.{accepted, surveyOf}
 use Rattle.octree.specs.Lawful.{isCell, Octree}
 use Rattle.octree.proofs.Accepted.{Checked, lawful}

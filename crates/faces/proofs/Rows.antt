@@ -12,7 +12,7 @@ use Rattle.base.proofs.Tests.{and→}
 use Rattle.base.proofs.Lists.{all→in, count-in}
 use Rattle.rules.specs.Survey.{Cell, cell, size, cellCorners}
 use Rattle.rules.specs.Edges.{edge}
-use Rattle.rules.specs.Steps.{Side, upperSide, lowerSide, Face, face, faceCorner, faceEdge}
+use Rattle.rules.specs.Steps.{Side, upperSide, lowerSide, Face, faceCorner, faceEdge}
 use Rattle.across.specs.Across.{sideNumber}
 use Rattle.crossings.specs.Crossings.{edgeAt}
 use Rattle.faces.specs.Faces.{rowSide, rowUpper, faceOn, cornerOn, edgeOn, rowCorner, rowEdge}

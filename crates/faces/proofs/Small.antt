@@ -13,7 +13,7 @@ use borrow.Author.Tests.{eq-eqb, ne-eqb, eqb-true, eqb-false}
 use Rattle.base.specs.Lists.{any, collect}
 use Rattle.base.specs.Grid.{Place, origin, Axis, X, Y, Z, move, same, octants}
 use Rattle.base.proofs.Tests.{→true, →false, tests-equal, eq→eqb}
-use Rattle.base.proofs.Lists.{In, in-get}
+use Rattle.base.proofs.Lists.{In, in-get, collect-append}
 use Rattle.rules.specs.Survey.{Cell, cell, cellsOf, entry, entries, Survey}
 use Rattle.rules.specs.Steps.{Side, Face, face, faceCorner, Step, splitAcross, smallFaces, faceSteps}
 use Rattle.rules.specs.Outputs.{entriesRight, accepted, surveyOf}
@@ -137,10 +137,6 @@ across-split cells side l q =
     shown false p = same-moved (side .across) (2 ^ l) q p
 
 -- ---- the rules' small faces
-
-collect-append : {A B : Type 0} (f : A → List B) (xs ys : List A) → collect f (xs ++ ys) ≡ collect f xs ++ collect f ys
-collect-append f [] ys = refl
-collect-append f (x ∷ xs) ys = ap (λ l. f x ++ l) (collect-append f xs ys) ∙ sym (append-assoc (f x) (collect f xs) (collect f ys))
 
 -- the steps in the small faces of a face
 unfoldable pub smallSteps : Survey → Side → Place → ℕ → List Step

@@ -15,7 +15,7 @@ use Rattle.base.proofs.Tests.{true→}
 use Rattle.base.proofs.Lists.{In, get-any, in-count}
 use Rattle.rules.specs.Survey.{cellCorners, Survey}
 use Rattle.rules.specs.Edges.{CellEdge, odd, pointOf}
-use Rattle.rules.specs.Steps.{Side, Face, faceCorner, faceEdge, Step, steps, saddleCut, faceSteps}
+use Rattle.rules.specs.Steps.{Side, Face, faceCorner, faceEdge, Step, saddleCut, faceSteps}
 use Rattle.rules.specs.Outputs.{surveyOf}
 use Rattle.cells.specs.Laid.{cellAt}
 use Rattle.crossings.specs.Crossings.{crossingOf, binary, wetMask, Crossings}

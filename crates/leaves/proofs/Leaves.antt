@@ -12,16 +12,16 @@ use native.Mathlib.Decide.{ℕ-discrete}
 use mathlib.Core.Path.{_≡_, refl, sym, ap, _∙_}
 use mathlib.Core.Logic.{_⊎_, inl, inr}
 use mathlib.Core.Bool.{Bool, true, false, not, _||_, cond}
-use mathlib.Core.List.{List, [], _∷_, _++_, append-assoc, append-nil}
+use mathlib.Core.List.{List, [], _∷_, _++_, append-nil}
 use lib.Dec.{T, eqb}
-use lib.ListN.{length, getD, take, drop, length-append}
+use lib.ListN.{length, take, drop, length-append}
 use lib.Seq.{take-suc, take-length}
 use lib.Ieee.{Float}
 use borrow.Author.Tests.{eq-eqb, ne-eqb}
 use Rattle.base.specs.Lists.{keep, collect, sum, bit}
 use Rattle.base.specs.Grid.{origin}
 use Rattle.base.proofs.Tests.{→true, or→, bit-true}
-use Rattle.base.proofs.Lists.{In, in-get, any→in, keep-in}
+use Rattle.base.proofs.Lists.{In, in-get, any→in, keep-in, collect-append}
 use Rattle.base.proofs.Sums.{sum-one, sum-le, sum-collect, in-sum}
 use Rattle.rules.specs.Survey.{Cell, cell, entry, entries, cellsOf, Survey}
 use Rattle.rules.specs.Edges.{pointEdges}
@@ -44,7 +44,7 @@ use Rattle.edges.proofs.Surveyed.{cells-few}
 use Rattle.trace.specs.Trace.{Traced, meets}
 use Rattle.loops.specs.Loops.{Leaf, into, Drawn, Loaded, Draws}
 use Rattle.loops.proofs.Slices.{length-numbers, numbers-append}
-use Rattle.leaves.specs.Leaves.{recordTriangles, trianglesTo, Drew}
+use Rattle.leaves.specs.Leaves.{recordTriangles, Drew}
 use Rattle.leaves.proofs.Slices.{into-nil, into-more}
 
 -- where there are no triangles, nothing is drawn
@@ -55,12 +55,10 @@ drew-nothing limit ts out t none h = record {
   emptied = h;
 }
 
--- ---- lists
-
-collect-append : {A B : Type 0} (f : A → List B) (xs ys : List A) → collect f (xs ++ ys) ≡ collect f xs ++ collect f ys
-collect-append f [] ys = refl
-collect-append {B = B} f (x ∷ xs) ys =
-    ap (λ (l : List B). f x ++ l) (collect-append f xs ys) ∙ sym (append-assoc (f x) (collect f xs) (collect f ys))
+-- the triangles of the leaves among the first n records
+unfoldable pub trianglesTo : Survey → ℕ → List Triangle
+unfolding leafLoops
+trianglesTo s n = collect (λ c. collect fan (leafLoops s c)) (keep (λ c. not (c .split)) (take n (s .cells)))
 
 -- what is drawn of one record
 one-kept : (drawn : Cell → List Triangle) (c : Cell) (split : Bool) → collect drawn (cond (not split) (c ∷ []) []) ≡ cond split [] (drawn c)

@@ -2,11 +2,11 @@
 -- Assumes nothing: these are definitions.
 use Prim.Native.Nat.{ℕ, _≤_}
 use mathlib.Core.Path.{_≡_}
-use mathlib.Core.Bool.{true, not, cond}
+use mathlib.Core.Bool.{true, cond}
 use mathlib.Core.List.{List, []}
-use lib.ListN.{length, take}
+use lib.ListN.{length}
 use lib.Ieee.{Float}
-use Rattle.base.specs.Lists.{keep, collect}
+use Rattle.base.specs.Lists.{collect}
 use Rattle.rules.specs.Survey.{Cell, Survey}
 use Rattle.rules.specs.Edges.{pointEdges}
 use Rattle.rules.specs.Steps.{Triangle, fan, leafLoops}
@@ -38,11 +38,6 @@ survey {tc} r = surveyOf tc (r .corners) (r .clearance)
 unfoldable pub recordTriangles : Survey → Cell → List Triangle
 unfolding leafLoops
 recordTriangles s c = cond (c .split) [] (collect fan (leafLoops s c))
-
--- the triangles of the leaves among the first n records
-unfoldable pub trianglesTo : Survey → ℕ → List Triangle
-unfolding leafLoops
-trianglesTo s n = collect (λ c. collect fan (leafLoops s c)) (keep (λ c. not (c .split)) (take n (s .cells)))
 
 -- Triangles are drawn: how many they are, their numbers in the lent slice as far as it goes, and the trace is empty again.
 pub record Drew (limit : ℕ) (ts : List Triangle) (before after : List ℕ) (r : ℕ) (trace : List ℕ) : Type 0 where

@@ -1,5 +1,5 @@
-// One pass over the leaves by record number: each leaf's face steps, its loops, its triangles into what is lent. Uses records, faces, trace and loops, and the
-// tables that across, crossings and edges describe.
+// One pass over the leaves by record number: each leaf's face steps, its loops, its triangles into what is lent. Uses records, faces and loops, and the tables
+// that trace, across, crossings and edges describe.
 ghost use mathlib.Core.Path.{_≡_};
 ghost use Prim.Native.Nat.{_*_, _/_, _<_, min};
 ghost use lib.ListN.{length};

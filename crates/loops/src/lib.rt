@@ -1,4 +1,4 @@
-// The loops of a leaf, each from its lowest point on, and their triangles, written into what is lent.
+// The loops of a leaf, each from its lowest point on, and their triangles, written into what is lent. Uses trace.
 ghost use mathlib.Core.Path.{_≡_};
 ghost use mathlib.Core.Bool.{_&&_, cond};
 ghost use mathlib.Core.List.{[], _∷_};
@@ -129,7 +129,7 @@ fn lowest_met(trace: &[u16]) -> u16
 }
 
 // The loops of a leaf, by their lowest points: their triangles, written into the lent slice as far as it goes; how many there are. The trace is
-// empty again afterwards. Each loop costs a scan of the leaf's list of points: a leaf has few loops.
+// empty again afterwards. Each loop costs a scan of the leaf's list of points.
 pub fn draw_loops(trace: &mut [u16], twins: &[u16], out: &mut [u32]) -> u32
     requires { ⌜ Loaded (now twins) (now trace) ⌝ }
     ensures { λ r. ⌜ Draws (now (twins .entry)) (now (trace .entry)) (now (out .entry)) (now (out .exit)) r (now (trace .exit)) ⌝ }

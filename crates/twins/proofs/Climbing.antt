@@ -1,4 +1,4 @@
--- Twins by corner records: the place at which the edge above starts, in keys; what a search for an edge finds; and the climb turn by turn.
+-- Twins by corner records: the place at which the edge above starts, in keys; and the rules' climb, one turn.
 use Prim.Native.Nat.{ℕ, zero, suc, _+_, _-_, _*_, _/_, _%_, _^_, _≤_, _<_}
 use mathlib.Core.Path.{_≡_, refl, sym, ap, _∙_, subst}
 use mathlib.Core.Logic.{_⊎_, inl, inr}

@@ -1,8 +1,8 @@
 -- `crossings::crossing` meets its contract: the edge is even just if the marks at its two corner records are the same.
-use Prim.Native.Nat.{ℕ, _/_, _%_, _≤_}
+use Prim.Native.Nat.{_/_, _%_, _≤_}
 use mathlib.Core.Path.{_≡_, _∙_, subst}
 use native.Mathlib.Omega.{arith}
-use lib.ListN.{length, getD}
+use lib.ListN.{length}
 use Rattle.cells.specs.Laid.{cellAt, levelIn}
 use Rattle.octants.specs.Octants.{Octant}
 use Rattle.crossings.proofs.Leaves.{cells-small, corners-small}

@@ -1,15 +1,14 @@
--- `drawing::draw_accepted` meets its contract: a slice that is too short is refused before anything is written.
+-- `drawing::draw_accepted` meets its contract: where a slice is too short nothing is written.
 use Prim.Native.Nat.{ℕ, _*_, _≤_}
-use mathlib.Core.Path.{_≡_, sym, subst}
-use mathlib.Core.Bool.{true}
+use mathlib.Core.Path.{sym, subst}
 use mathlib.Core.List.{List}
 use native.Mathlib.Omega.{arith}
 use lib.Dec.{leb}
 use lib.ListN.{length}
 use Rattle.rules.specs.Steps.{allTriangles}
-use Rattle.rules.specs.Outputs.{accepted, surveyOf}
+use Rattle.rules.specs.Outputs.{surveyOf}
 use Rattle.leaves.proofs.Leaves.{points-few}
-use Rattle.triangles.specs.Settled.{Known, Settled}
+use Rattle.triangles.specs.Settled.{Settled}
 use Rattle.triangles.proofs.Settling.{left-alone, written-over}
 use Rattle.drawing.specs.Draws.{lent, Draws}
 use Rattle.drawing.proofs.Passed.{levels-fresh, few-cells, entries-follow, none-deep}

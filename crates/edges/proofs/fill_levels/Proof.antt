@@ -1,4 +1,4 @@
--- `edges::fill_levels` meets its contract: before each turn the tables are of the edges of the cells from record n on.
+-- `edges::fill_levels` meets its contract: before each turn the table is of the edges of the cells from record n on.
 use Prim.Native.Nat.{_+_, _-_, _/_, _≤_, _<_}
 use mathlib.Core.Path.{_≡_, sym, ap, _∙_}
 use native.Mathlib.Omega.{arith}

@@ -1,8 +1,7 @@
 -- `edges::number_slots` meets its contract: before each turn the slots passed are numbered and the points found are entered.
-use Rattle.edges.proofs.Numbering.{number-none, number-next, pass-over, numbers-done, carriers-done, count-done}
+use Rattle.edges.proofs.Numbering.{NumberedBelow, number-none, number-next, pass-over, numbers-done, carriers-done, count-done}
 use Rattle.edges.proofs.Readings.{edges-law, few-places, record-outside}
 use Rattle.edges.proofs.Entries.{withNumber}
-use Rattle.edges.specs.Numbering.{NumberedBelow}
 use Prim.Native.Nat.{_+_, _-_, _*_, _/_}
 use mathlib.Core.Path.{_≡_, refl, sym, _∙_}
 use native.Mathlib.Omega.{arith}

@@ -8,7 +8,6 @@ use mathlib.Core.List.{List}
 use native.Mathlib.Omega.{arith}
 use lib.ListN.{length}
 use Rattle.base.specs.Lists.{collect}
-use Rattle.rules.specs.Survey.{entry}
 use Rattle.rules.specs.Steps.{Step}
 use Rattle.trace.specs.Trace.{recorded}
 use Rattle.trace.proofs.Laws.{length-recorded}

@@ -1,12 +1,12 @@
 -- `leaves::draw_leaves` meets its contract. The loop's invariant: the triangles of the records before the one at hand are drawn. The measure is how many
 -- records are to come.
-use Prim.Native.Nat.{_-_, _*_, _/_, _≤_, min}
+use Prim.Native.Nat.{_-_, _/_, _≤_}
 use mathlib.Core.Path.{_≡_, refl, sym, ap, _∙_}
 use lib.ListN.{length}
-use Rattle.leaves.specs.Leaves.{Ready, survey, trianglesTo, Drew}
+use Rattle.leaves.specs.Leaves.{Ready, survey, Drew}
 use Rattle.leaves.proofs.Slices.{into-length}
 use Rattle.leaves.proofs.Records.{still}
-use Rattle.leaves.proofs.Leaves.{drew-none, drew-more, drew-all, count-room}
+use Rattle.leaves.proofs.Leaves.{trianglesTo, drew-none, drew-more, drew-all, count-room}
 use borrow.Author.Needs.{needs}
 use native.Mathlib.Omega.{arith}
 use Rattle.leaves.proofs.draw_leaves.Statement.{statement}
@@ -65,7 +65,7 @@ part-draw-record-end c = search needs
 draw-record-requires : tie.Need-draw-record-requires Inv-loop μ-loop
 draw-record-requires c κs =
     let t = c .before .before .before in
-    (ready (t .before) (start (t .before) .pre), t .loop-test .taken)
+    (ready (t .before) (start (t .before) .pre), omega (arith, t .loop-test .taken))
 
 add-count : tie.Need-add-count Inv-loop μ-loop
 add-count c =

@@ -1,6 +1,5 @@
 -- `triangles::draw_few` meets its contract: a fresh trace is empty.
 use native.Mathlib.Omega.{arith}
-use Rattle.leaves.proofs.Leaves.{points-few}
 use Rattle.triangles.proofs.Settling.{made, ready}
 use borrow.Author.Needs.{needs}
 use Rattle.triangles.proofs.draw_few.Statement.{statement}

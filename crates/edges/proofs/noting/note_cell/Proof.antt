@@ -1,4 +1,4 @@
--- `edges::noting::note_cell` meets its contract: before each turn the tables are of the cell's edges from edge e on, and of those of the cells behind.
+-- `edges::noting::note_cell` meets its contract: before each turn the table is of the cell's edges from edge e on, and of those of the cells behind.
 use Prim.Native.Nat.{ℕ, _+_, _-_, _*_, _/_, _≤_, _<_}
 use mathlib.Core.Path.{_≡_, sym, ap, _∙_}
 use mathlib.Core.Bool.{false}
