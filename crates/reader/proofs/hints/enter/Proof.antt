@@ -1,15 +1,14 @@
--- `reader::hints::enter` reads and writes inside the hints.
+-- `reader::hints::enter` reads and writes inside the hints, and what it writes fits.
 use Prim.Native.Nat.{_<_}
 use borrow.Author.Needs.{needs}
-use native.Mathlib.Omega.{arith}
 use Rattle.reader.proofs.hints.enter.Statement.{statement}
 use Rattle.reader.proofs.hints.enter.Tie as tie
 
 abbrev Inv-loop : tie.InvT-loop
-Inv-loop hints₀ key k at₀ left₀ hints at left = at < 8192
+Inv-loop hints₀ mix k at₀ left₀ hints at left = at < 8192
 
 abbrev μ-loop : tie.MeasureT-loop
-μ-loop hints₀ key k at₀ left₀ hints at left = left
+μ-loop hints₀ mix k at₀ left₀ hints at left = left
 
 spot-requires : tie.Need-spot-requires Inv-loop μ-loop
 spot-requires c κs = search needs
@@ -23,8 +22,17 @@ mul-if1 c = search needs
 element-copy-out-if1 : tie.Need-element-copy-out-if1 Inv-loop μ-loop
 element-copy-out-if1 c = search needs
 
+tag-requires : tie.Need-tag-requires Inv-loop μ-loop
+tag-requires c κs = search needs
+
 mul-hints : tie.Need-mul-hints Inv-loop μ-loop
 mul-hints c = search needs
+
+add-hints : tie.Need-add-hints Inv-loop μ-loop
+add-hints c = search needs
+
+mul-hints-2 : tie.Need-mul-hints-2 Inv-loop μ-loop
+mul-hints-2 c = search needs
 
 element-write-hints : tie.Need-element-write-hints Inv-loop μ-loop
 element-write-hints c = search needs
@@ -57,7 +65,10 @@ enter-spec =
     loop-holds
     mul-if1
     element-copy-out-if1
+    tag-requires
     mul-hints
+    add-hints
+    mul-hints-2
     element-write-hints
     returns
     add-at

@@ -1,6 +1,5 @@
 use Prim.Native.Nat.{_≤_, _-_}
 use borrow.Author.Needs.{needs}
-use native.Mathlib.Omega.{arith}
 use Rattle.reader.proofs.hints.fill.Statement.{statement}
 use Rattle.reader.proofs.hints.fill.Tie as tie
 
@@ -15,6 +14,9 @@ loop-holds c = search needs
 
 key-at-requires : tie.Need-key-at-requires Inv-loop μ-loop
 key-at-requires c κs = search needs
+
+mixed-requires : tie.Need-mixed-requires Inv-loop μ-loop
+mixed-requires c κs = search needs
 
 cast-enter : tie.Need-cast-enter Inv-loop μ-loop
 cast-enter c = search needs
@@ -42,6 +44,7 @@ fill-spec =
     μ-loop
     loop-holds
     key-at-requires
+    mixed-requires
     cast-enter
     enter-requires
     add-k
