@@ -1,13 +1,13 @@
 -- Loops over a counter: the element at a position, and what a test of a list says after some turns.
 use Prim.Native.Nat.{ℕ, zero, suc, _+_, _-_, _≤_, _<_}
-use mathlib.Core.Path.{_≡_, refl, sym, ap, _∙_}
+use mathlib.Core.Path.{_≡_, refl, ap, _∙_}
 use mathlib.Core.Bool.{Bool, true, false, _&&_, _||_, cond}
 use mathlib.Core.List.{List, [], _∷_, _++_, map}
 use native.Mathlib.Nat.{add-zero}
 use native.Mathlib.Numerals.{add-one}
 use native.Mathlib.Omega.{arith}
 use lib.Dec.{T}
-use lib.ListN.{length, getD, take, drop, length-map, List·getD-map}
+use lib.ListN.{length, getD, drop, length-map, List·getD-map}
 use lib.Seq.{drop-cons}
 use Rattle.base.specs.Lists.{any, all, first, position, collect, count}
 use Rattle.base.proofs.Lists.{get-any, length-count, get-count}

@@ -15,7 +15,7 @@ use lib.ListN.{length}
 use borrow.Author.Tests.{eq-eqb, ne-eqb}
 use Rattle.base.specs.Lists.{sum, any, count, bit, often}
 use Rattle.base.proofs.Lists.{In}
-use Rattle.base.proofs.Sums.{in-sum, times, times-in}
+use Rattle.base.proofs.Sums.{in-sum, times-in}
 
 -- 1 for equal numbers, else 0
 abbrev pub equal : ℕ → ℕ → ℕ

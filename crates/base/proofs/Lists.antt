@@ -1,9 +1,9 @@
 -- Membership, and the tests and choices of lists as facts of it.
 use Prim.Native.Nat.{ℕ, zero, suc, _+_, _≤_, _<_}
-use mathlib.Core.Path.{_≡_, refl, sym, ap, subst}
+use mathlib.Core.Path.{_≡_, refl, sym, ap, _∙_, subst}
 use mathlib.Core.Logic.{_⊎_, inl, inr}
 use mathlib.Core.Bool.{Bool, true, false, _||_, cond}
-use mathlib.Core.List.{List, [], _∷_, _++_, map}
+use mathlib.Core.List.{List, [], _∷_, _++_, map, append-assoc}
 use native.Mathlib.Omega.{arith}
 use lib.Dec.{T}
 use lib.ListN.{length, getD}
@@ -170,3 +170,8 @@ pub get-count : (n i m d : ℕ) → m < n → getD (count i n) m d ≡ i + m
 get-count zero i m d h = absurd (omega arith)
 get-count (suc n) i zero d h = omega arith
 get-count (suc n) i (suc m) d h = omega (arith, get-count n (suc i) m d (omega arith))
+
+pub collect-append : {A B : Type 0} (f : A → List B) (xs ys : List A) → collect f (xs ++ ys) ≡ collect f xs ++ collect f ys
+collect-append f [] ys = refl
+collect-append {B = B} f (x ∷ xs) ys =
+    ap (λ (l : List B). f x ++ l) (collect-append f xs ys) ∙ sym (append-assoc (f x) (collect f xs) (collect f ys))

@@ -1,4 +1,4 @@
--- The tables of cells: for each record, the key of the cell's lowest corner and the cell's level.
+-- The table of cells: for each record, the key of the cell's lowest corner and the cell's level.
 use Prim.Native.Nat.{ℕ, _+_, _*_, _/_, _%_, _^_, _≤_, _<_}
 use mathlib.Core.Bool.{Bool, false, _&&_}
 use lib.Dec.{eqb}
@@ -26,17 +26,24 @@ cellAt t n = getD (cellsOf t) n (cell origin 10 false)
 abbrev pub tooDeep : Cell → Bool
 tooDeep c = c .split && eqb (c .level) 0
 
--- what the tables hold of record n: its cell's key and level; the cell lies in the box
-pub record Entered (t keys levels : List ℕ) (n : ℕ) : Type 0 where
-  pub key : getD keys n 0 ≡ keyOf (cellAt t n .low)
-  pub level : getD levels n 0 ≡ cellAt t n .level
+-- the key and the level of the cell of record n, as a table has them in one number: the key plus 2 ^ 48 times the level
+unfoldable pub keyIn : List ℕ → ℕ → ℕ
+keyIn table n = getD table n 0 % 281474976710656
+
+unfoldable pub levelIn : List ℕ → ℕ → ℕ
+levelIn table n = getD table n 0 / 281474976710656 % 16
+
+-- what the table holds of record n: its cell's key and level; the cell lies in the box
+pub record Entered (t table : List ℕ) (n : ℕ) : Type 0 where
+  pub key : keyIn table n ≡ keyOf (cellAt t n .low)
+  pub level : levelIn table n ≡ cellAt t n .level
   pub shallow : cellAt t n .level ≤ 10
   pub in-box : (a : Axis) → along a (cellAt t n .low) + 2 ^ cellAt t n .level ≤ 1024
 
--- the tables hold the cells of the records below m
-pub record LaidTo (t keys levels : List ℕ) (m : ℕ) : Type 0 where
-  pub entered : (n : ℕ) → n < m → Entered t keys levels n
+-- the table holds the cells of the records below m
+pub record LaidTo (t table : List ℕ) (m : ℕ) : Type 0 where
+  pub entered : (n : ℕ) → n < m → Entered t table n
 
--- the tables hold the cells of all records
-abbrev pub Laid : List ℕ → List ℕ → List ℕ → Type 0
-Laid t keys levels = LaidTo t keys levels (length t / 4)
+-- the table holds the cells of all records
+abbrev pub Laid : List ℕ → List ℕ → Type 0
+Laid t table = LaidTo t table (length t / 4)

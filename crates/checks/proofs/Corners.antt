@@ -21,7 +21,7 @@ use Rattle.records.specs.Keys.{keyOf, placesOf, recordAt, Short}
 use Rattle.records.proofs.Keys.{Bytes, nowhere, get-place, length-places}
 use Rattle.records.proofs.Search.{keyAt, keys-rise, is-at}
 use Rattle.records.proofs.Found.{record-at-place, listed-found, found-listed}
-use Rattle.cells.specs.Laid.{octantKey, cellAt, Entered, Laid}
+use Rattle.cells.specs.Laid.{octantKey, cellAt, Entered, Laid, keyIn, levelIn}
 use Rattle.cells.proofs.Octants.{octant-key-is}
 use Rattle.checks.specs.Marks.{cornerNumbers, allNumbers, marked}
 use Rattle.base.proofs.Below.{all-count, any-count, all-collect, any-collect, all-map, any-map}
@@ -65,10 +65,10 @@ abbrev pub corner : List ℕ → ℕ → ℕ → Place
 corner tc n i = getD (cellCorners (cellAt tc n)) i origin
 
 -- a corner of a cell that the tables hold: its key, and it fits 16 bits
-module _ (tc keys levels : List ℕ) (n : ℕ) (o : Entered tc keys levels n) (i : ℕ) (h : i < 8) where
-  pub corner-key : getD keys n 0 + octantKey i (2 ^ getD levels n 0) ≡ keyOf (corner tc n i)
+module _ (tc table : List ℕ) (n : ℕ) (o : Entered tc table n) (i : ℕ) (h : i < 8) where
+  pub corner-key : keyIn table n + octantKey i (2 ^ levelIn table n) ≡ keyOf (corner tc n i)
   corner-key =
-      ap (λ l. getD keys n 0 + octantKey i (2 ^ l)) (o .level) ∙ ap (λ k. k + octantKey i (2 ^ cellAt tc n .level)) (o .key)
+      ap (λ l. keyIn table n + octantKey i (2 ^ l)) (o .level) ∙ ap (λ k. k + octantKey i (2 ^ cellAt tc n .level)) (o .key)
       ∙ sym (octant-key-is (2 ^ cellAt tc n .level) (cellAt tc n .low) origin i h)
 
   in-reach : (a : Axis) → along a (corner tc n i) ≤ 1024
@@ -84,29 +84,29 @@ module _ (tc keys levels : List ℕ) (n : ℕ) (o : Entered tc keys levels n) (i
   pub corner-short : Short (corner tc n i)
   corner-short = record { x-fits = omega (arith, in-reach X); y-fits = omega (arith, in-reach Y) }
 
-module _ (tc tk keys levels : List ℕ) (three : T (entriesRight 0 0 (entries tc))) (laid : Laid tc keys levels) (b : Bytes tk) where
+module _ (tc tk table : List ℕ) (three : T (entriesRight 0 0 (entries tc))) (laid : Laid tc table) (b : Bytes tk) where
   -- the corner records of cell n
   abbrev numbersAt : ℕ → List ℕ
-  numbersAt n = cornerNumbers tk (getD keys n 0) (getD levels n 0)
+  numbersAt n = cornerNumbers tk (keyIn table n) (levelIn table n)
 
   abbrev listed : Cell → Bool
   listed c = all (λ p. any (same p) (placesOf tk)) (cellCorners c)
 
-  inside : (n : ℕ) → n < length (cellsOf tc) → Entered tc keys levels n
+  inside : (n : ℕ) → n < length (cellsOf tc) → Entered tc table n
   inside n h = laid .entered n (omega (arith, cell-count tc three))
 
   cell-listed : (n : ℕ) → n < length (cellsOf tc) → listed (cellAt tc n) ≡ all (λ k. ltb k (length tk / 10)) (numbersAt n)
   unfolding cornerNumbers
   cell-listed n h =
-      all-count (λ p. any (same p) (placesOf tk)) origin (λ i. ltb (recordAt tk (getD keys n 0 + octantKey i (2 ^ getD levels n 0))) (length tk / 10))
+      all-count (λ p. any (same p) (placesOf tk)) origin (λ i. ltb (recordAt tk (keyIn table n + octantKey i (2 ^ levelIn table n))) (length tk / 10))
       (cellCorners (cellAt tc n)) 0
-      (λ i k. listed-is tk b (corner tc n i) (corner-short tc keys levels n (inside n h) i k)
-      ∙ ap (λ z. ltb (recordAt tk z) (length tk / 10)) (sym (corner-key tc keys levels n (inside n h) i k))
-      ∙ ap (λ j. ltb (recordAt tk (getD keys n 0 + octantKey j (2 ^ getD levels n 0))) (length tk / 10)) (let e : i ≡ 0 + i = omega arith in e))
-      ∙ sym (all-map (λ k. ltb k (length tk / 10)) (λ i. recordAt tk (getD keys n 0 + octantKey i (2 ^ getD levels n 0))) (count 0 8))
+      (λ i k. listed-is tk b (corner tc n i) (corner-short tc table n (inside n h) i k)
+      ∙ ap (λ z. ltb (recordAt tk z) (length tk / 10)) (sym (corner-key tc table n (inside n h) i k))
+      ∙ ap (λ j. ltb (recordAt tk (keyIn table n + octantKey j (2 ^ levelIn table n))) (length tk / 10)) (let e : i ≡ 0 + i = omega arith in e))
+      ∙ sym (all-map (λ k. ltb k (length tk / 10)) (λ i. recordAt tk (keyIn table n + octantKey i (2 ^ levelIn table n))) (count 0 8))
 
   -- every corner of every cell is listed where every look-up finds a record
-  pub all-listed : all listed (cellsOf tc) ≡ all (λ k. ltb k (length tk / 10)) (allNumbers tk keys levels (length tc / 4))
+  pub all-listed : all listed (cellsOf tc) ≡ all (λ k. ltb k (length tk / 10)) (allNumbers tk table (length tc / 4))
   unfolding allNumbers
   all-listed =
       all-count listed box (λ n. all (λ k. ltb k (length tk / 10)) (numbersAt n)) (cellsOf tc) 0
@@ -121,14 +121,14 @@ module _ (tc tk keys levels : List ℕ) (three : T (entriesRight 0 0 (entries tc
     unfolding cornerNumbers
     cell-corner k l n h =
         any-count (same (getD (placesOf tk) k (placeOf nowhere))) origin
-        (λ i. eqb k (recordAt tk (getD keys n 0 + octantKey i (2 ^ getD levels n 0)))) (cellCorners (cellAt tc n)) 0
-        (λ i g. record-is tk b up k (corner tc n i) (corner-short tc keys levels n (inside n h) i g) l
-        ∙ ap (λ z. eqb k (recordAt tk z)) (sym (corner-key tc keys levels n (inside n h) i g))
-        ∙ ap (λ j. eqb k (recordAt tk (getD keys n 0 + octantKey j (2 ^ getD levels n 0)))) (let e : i ≡ 0 + i = omega arith in e))
-        ∙ sym (any-map (eqb k) (λ i. recordAt tk (getD keys n 0 + octantKey i (2 ^ getD levels n 0))) (count 0 8))
+        (λ i. eqb k (recordAt tk (keyIn table n + octantKey i (2 ^ levelIn table n)))) (cellCorners (cellAt tc n)) 0
+        (λ i g. record-is tk b up k (corner tc n i) (corner-short tc table n (inside n h) i g) l
+        ∙ ap (λ z. eqb k (recordAt tk z)) (sym (corner-key tc table n (inside n h) i g))
+        ∙ ap (λ j. eqb k (recordAt tk (keyIn table n + octantKey j (2 ^ levelIn table n)))) (let e : i ≡ 0 + i = omega arith in e))
+        ∙ sym (any-map (eqb k) (λ i. recordAt tk (keyIn table n + octantKey i (2 ^ levelIn table n))) (count 0 8))
 
     some-corner : (k : ℕ) → k < length tk / 10
-        → any (λ c. any (same (getD (placesOf tk) k (placeOf nowhere))) (cellCorners c)) (cellsOf tc) ≡ any (eqb k) (allNumbers tk keys levels (length tc / 4))
+        → any (λ c. any (same (getD (placesOf tk) k (placeOf nowhere))) (cellCorners c)) (cellsOf tc) ≡ any (eqb k) (allNumbers tk table (length tc / 4))
     unfolding allNumbers
     some-corner k l =
         any-count (λ c. any (same (getD (placesOf tk) k (placeOf nowhere))) (cellCorners c)) box (λ n. any (eqb k) (numbersAt n)) (cellsOf tc) 0
@@ -138,13 +138,13 @@ module _ (tc tk keys levels : List ℕ) (three : T (entriesRight 0 0 (entries tc
 
     module _ (marks : List ℕ) (room : length tk / 10 ≤ length marks) (blank : (k : ℕ) → k < length tk / 10 → getD marks k 0 ≡ 0) where
       abbrev newMarks : List ℕ
-      newMarks = marked (allNumbers tk keys levels (length tc / 4)) marks
+      newMarks = marked (allNumbers tk table (length tc / 4)) marks
 
-      mark-is : (k : ℕ) → k < length tk / 10 → any (eqb k) (allNumbers tk keys levels (length tc / 4)) ≡ eqb (getD newMarks k 0) 1
+      mark-is : (k : ℕ) → k < length tk / 10 → any (eqb k) (allNumbers tk table (length tc / 4)) ≡ eqb (getD newMarks k 0) 1
       mark-is k h =
-          go (any (eqb k) (allNumbers tk keys levels (length tc / 4)))
-          ∙ ap (λ v. eqb v 1) (sym (mark-at k (allNumbers tk keys levels (length tc / 4)) marks (omega arith) ∙
-          ap (λ v. cond (any (eqb k) (allNumbers tk keys levels (length tc / 4))) 1 v) (blank k h)))
+          go (any (eqb k) (allNumbers tk table (length tc / 4)))
+          ∙ ap (λ v. eqb v 1) (sym (mark-at k (allNumbers tk table (length tc / 4)) marks (omega arith) ∙
+          ap (λ v. cond (any (eqb k) (allNumbers tk table (length tc / 4))) 1 v) (blank k h)))
         where
           go : (r : Bool) → r ≡ eqb (cond r 1 0) 1
           go true = refl
@@ -161,36 +161,36 @@ module _ (tc tk keys levels : List ℕ) (three : T (entriesRight 0 0 (entries tc
 
       -- check 6
       pub corners-are : cornersRight (cellsOf tc) (placesOf tk)
-          ≡ all (λ k. ltb k (length tk / 10)) (allNumbers tk keys levels (length tc / 4)) && all (λ k. eqb (getD newMarks k 0) 1) (count 0 (length tk / 10))
+          ≡ all (λ k. ltb k (length tk / 10)) (allNumbers tk table (length tc / 4)) && all (λ k. eqb (getD newMarks k 0) 1) (count 0 (length tk / 10))
       unfolding cornersRight
       corners-are = ap (λ r. r && all (λ p. any (λ c. any (same p) (cellCorners c)) (cellsOf tc)) (placesOf tk)) all-listed
-          ∙ ap (λ r. all (λ k. ltb k (length tk / 10)) (allNumbers tk keys levels (length tc / 4)) && r) all-corners
+          ∙ ap (λ r. all (λ k. ltb k (length tk / 10)) (allNumbers tk table (length tc / 4)) && r) all-corners
 
 -- Check 6 as the code decides it: by the first missing corner, or by the marks; n is the number of corner records.
-module _ (tc tk keys levels : List ℕ) (three : entriesRight 0 0 (entries tc) ≡ true) (laid : Laid tc keys levels) (b : Bytes tk)
+module _ (tc tk table : List ℕ) (three : entriesRight 0 0 (entries tc) ≡ true) (laid : Laid tc table) (b : Bytes tk)
     (n : ℕ) (n-is : n ≡ length tk / 10) where
   abbrev found : ℕ → Bool
-  found m = all (λ k. ltb k m) (allNumbers tk keys levels (length tc / 4))
+  found m = all (λ k. ltb k m) (allNumbers tk table (length tc / 4))
 
   pub one-missing : found n ≡ false → false ≡ cornersRight (cellsOf tc) (placesOf tk)
   unfolding cornersRight
   one-missing e =
       sym (ap (λ r. r && all (λ p. any (λ c. any (same p) (cellCorners c)) (cellsOf tc)) (placesOf tk))
-      (all-listed tc tk keys levels (→true three) laid b ∙ ap found (sym n-is) ∙ e))
+      (all-listed tc tk table (→true three) laid b ∙ ap found (sym n-is) ∙ e))
 
   none-missing : rising (placesOf tk) ≡ true → (marks new : List ℕ) → n ≤ length marks → ((k : ℕ) → k < n → getD marks k 0 ≡ 0) → found n ≡ true
-      → new ≡ marked (allNumbers tk keys levels (length tc / 4)) marks
+      → new ≡ marked (allNumbers tk table (length tc / 4)) marks
       → all (λ k. eqb (getD new k 0) 1) (count 0 n) ≡ cornersRight (cellsOf tc) (placesOf tk)
   none-missing up marks new room blank e w =
       ap (λ m. all (λ k. eqb (getD m k 0) 1) (count 0 n)) w
-      ∙ ap (λ m. all (λ k. eqb (getD (marked (allNumbers tk keys levels (length tc / 4)) marks) k 0) 1) (count 0 m)) n-is
-      ∙ sym (corners-are tc tk keys levels (→true three) laid b up marks (omega arith) (λ k h. blank k (omega arith))
-      ∙ ap (λ r. r && all (λ k. eqb (getD (marked (allNumbers tk keys levels (length tc / 4)) marks) k 0) 1) (count 0 (length tk / 10)))
+      ∙ ap (λ m. all (λ k. eqb (getD (marked (allNumbers tk table (length tc / 4)) marks) k 0) 1) (count 0 m)) n-is
+      ∙ sym (corners-are tc tk table (→true three) laid b up marks (omega arith) (λ k h. blank k (omega arith))
+      ∙ ap (λ r. r && all (λ k. eqb (getD (marked (allNumbers tk table (length tc / 4)) marks) k 0) 1) (count 0 (length tk / 10)))
       (ap found (sym n-is) ∙ e))
 
   -- the same, where the marks are made blank
   pub none-missing-made : rising (placesOf tk) ≡ true → (room : ℕ) (new : List ℕ) → n ≤ room → found n ≡ true
-      → new ≡ marked (allNumbers tk keys levels (length tc / 4)) (replicate room 0)
+      → new ≡ marked (allNumbers tk table (length tc / 4)) (replicate room 0)
       → all (λ k. eqb (getD new k 0) 1) (count 0 n) ≡ cornersRight (cellsOf tc) (placesOf tk)
   none-missing-made up room new h e w =
       none-missing up (replicate room 0) new (omega (arith, length-replicate {A = ℕ} room 0)) (λ k l. getD-replicate room k 0 0 (omega arith)) e w

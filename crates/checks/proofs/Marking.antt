@@ -13,7 +13,7 @@ use Rattle.base.specs.Lists.{all, any, collect, count, count as upTo}
 use Rattle.base.proofs.Lists.{length-count, get-count}
 use Rattle.base.proofs.Below.{rest, all-fails, all-passes, get-table}
 use Rattle.records.specs.Keys.{recordAt}
-use Rattle.cells.specs.Laid.{octantKey}
+use Rattle.cells.specs.Laid.{octantKey, keyIn, levelIn}
 use Rattle.octants.specs.Octants.{LookedUp}
 use Rattle.checks.specs.Marks.{cornerNumbers, allNumbers, marked}
 
@@ -57,10 +57,10 @@ module _ (l : List ℕ) (i n : ℕ) (h : i < length l) where
 
 -- ---- the table of cells' corners as one list
 
-module _ (tk keys levels t : List ℕ) (cells : ℕ) (o : LookedUp tk keys levels t cells) (few : cells ≤ 2049) where
+module _ (tk table t : List ℕ) (cells : ℕ) (o : LookedUp tk table t cells) (few : cells ≤ 2049) where
   -- the corner records of one cell
   abbrev numbersAt : ℕ → List ℕ
-  numbersAt j = cornerNumbers tk (getD keys j 0) (getD levels j 0)
+  numbersAt j = cornerNumbers tk (keyIn table j) (levelIn table j)
 
   -- they are the table's eight numbers for it
   cell-numbers : (n : ℕ) → n < cells → take 8 (drop (8 * n) t) ≡ numbersAt n
@@ -73,7 +73,7 @@ module _ (tk keys levels t : List ℕ) (cells : ℕ) (o : LookedUp tk keys level
       at : (i : ℕ) → i < 8 → getD (take 8 (drop (8 * n) t)) i 0 ≡ getD (numbersAt n) i 0
       at i g =
           getD-take 8 (drop (8 * n) t) i 0 g ∙ getD-drop (8 * n) t i 0 ∙ o .number n i h g
-          ∙ sym (get-table (λ i. recordAt tk (getD keys n 0 + octantKey i (2 ^ getD levels n 0))) 0 8 i g)
+          ∙ sym (get-table (λ i. recordAt tk (keyIn table n + octantKey i (2 ^ levelIn table n))) 0 8 i g)
 
   -- those of k cells from cell n on
   from : (k n : ℕ) → n + k ≤ cells → take (8 * k) (drop (8 * n) t) ≡ collect numbersAt (count n k)
@@ -84,7 +84,7 @@ module _ (tk keys levels t : List ℕ) (cells : ℕ) (o : LookedUp tk keys level
       ∙ (λ j. cell-numbers n (omega arith) j ++ take (8 * k) ((drop-drop 8 (8 * n) t ∙ ap (λ m. drop m t) (let e : 8 * n + 8 ≡ 8 * suc n = omega arith in e)) j))
       ∙ ap (λ r. numbersAt n ++ r) (from k (suc n) (omega arith))
 
-  pub table-is : take (8 * cells) t ≡ allNumbers tk keys levels cells
+  pub table-is : take (8 * cells) t ≡ allNumbers tk table cells
   unfolding allNumbers
   table-is = from cells 0 (omega arith)
 

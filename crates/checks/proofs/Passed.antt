@@ -1,22 +1,21 @@
--- What a survey that checks 1 to 7 pass gives the code above: counts that fit its tables, the rules that its look-ups ask, soundings in range,
--- and for every corner of every cell a record, which is the corner that the rules take there.
+-- What a survey that checks 1 to 7 pass gives the code above: counts that fit its tables, corner records that rise, and for every corner of every cell a
+-- record at its place.
 use Prim.Native.Nat.{ℕ, _+_, _*_, _/_, _^_, _≤_, _<_}
-use mathlib.Core.Path.{_≡_, sym, ap, _∙_, subst}
+use mathlib.Core.Path.{_≡_, sym, ap, _∙_}
 use mathlib.Core.Logic.{_⊎_, inl, inr}
-use mathlib.Core.Bool.{true, false}
+use mathlib.Core.Bool.{true}
 use mathlib.Core.List.{List}
 use native.Mathlib.Omega.{arith}
 use lib.Dec.{T}
 use lib.ListN.{length, getD}
 use Rattle.base.specs.Lists.{all, any}
 use Rattle.base.specs.Grid.{origin, Axis, X, Y, along, same}
-use Rattle.base.proofs.Tests.{and→, true→, false→}
+use Rattle.base.proofs.Tests.{and→, true→}
 use Rattle.base.proofs.Lists.{In, in-get, all→in, position-of}
 use Rattle.base.proofs.Places.{same→}
 use Rattle.base.proofs.Octants.{octant→}
-use Rattle.rules.specs.Survey.{entries, cellsOf, cellCorners, cornerRecord, cornersOf, cornerAt}
-use Rattle.rules.specs.Outputs.{entriesRight, rising, cornersRight, inRange}
-use Rattle.rules.specs.declared.Corner.{Corner}
+use Rattle.rules.specs.Survey.{cellsOf, cellCorners}
+use Rattle.rules.specs.Outputs.{rising, cornersRight}
 use Rattle.octree.proofs.Queue.{box}
 use Rattle.octree.proofs.Records.{cell-count}
 use Rattle.octree.proofs.Cells.{→cell}
@@ -24,21 +23,14 @@ use Rattle.octree.proofs.Tree.{octree-of}
 use Rattle.octree.proofs.Aligned.{cell-in-box}
 use Rattle.octree.proofs.Accepted.{Checked}
 use Rattle.records.specs.Keys.{keyOf, placesOf, recordAt, Short}
-use Rattle.records.proofs.Keys.{Bytes, nowhere, length-corners, get-corner}
-use Rattle.records.proofs.Found.{record-at-place, listed-found, corner-found}
-use Rattle.cells.specs.Laid.{cellAt, tooDeep, Laid}
+use Rattle.records.proofs.Keys.{Bytes}
+use Rattle.records.proofs.Found.{record-at-place, listed-found}
+use Rattle.cells.specs.Laid.{cellAt, Laid}
 use Rattle.octants.specs.Octants.{LookedUp, Octants}
 use Rattle.checks.proofs.Order.{table-fits}
 use Rattle.checks.proofs.Corners.{corner, corner-key}
 
 module _ (tc tk : List ℕ) (c : Checked tc tk) where
-  -- what `lay_out` and `find` ask
-  pub entries-pass : entriesRight 0 0 (entries tc) ≡ true
-  entries-pass = true→ (entriesRight 0 0 (entries tc)) (c .entries-right)
-
-  pub none-too-deep : any tooDeep (cellsOf tc) ≡ false
-  none-too-deep = false→ (any tooDeep (cellsOf tc)) (c .units-whole)
-
   pub places-rise : rising (placesOf tk) ≡ true
   places-rise = true→ (rising (placesOf tk)) (c .rises)
 
@@ -48,11 +40,6 @@ module _ (tc tk : List ℕ) (c : Checked tc tk) where
 
   pub few-corners : length tk / 10 ≤ 4872
   few-corners = omega (arith, table-fits 10 48720 tk (c .corner-table))
-
-  pub sounding-in-range : (k : ℕ) → k < length tk / 10 → T (inRange (cornerRecord tk k .sounding))
-  sounding-in-range k h =
-      subst (λ (r : Corner). T (inRange (r .sounding))) (get-corner tk k nowhere h)
-      (c .soundings (getD (cornersOf tk) k nowhere) (in-get (cornersOf tk) k nowhere (omega (arith, length-corners tk))))
 
   module _ (n : ℕ) (h : n < length tc / 4) where
     cell-in : In (cellAt tc n) (cellsOf tc)
@@ -87,12 +74,9 @@ module _ (tc tk : List ℕ) (c : Checked tc tk) where
       fits : Short (corner tc n i)
       fits = record { x-fits = omega (arith, corner-in-box X); y-fits = omega (arith, corner-in-box Y) }
 
-      -- the look-up finds its record, which is the corner that the rules take there
+      -- the look-up finds its record
       pub found : Bytes tk → recordAt tk (keyOf (corner tc n i)) < length tk / 10
       found b = listed-found tk b (corner tc n i) fits corner-listed
-
-      pub taken : Bytes tk → cornerAt (cornersOf tk) (corner tc n i) ≡ cornerRecord tk (recordAt tk (keyOf (corner tc n i)))
-      taken b = corner-found tk b (corner tc n i) fits (found b)
 
       -- and that record is at the corner's place
       pub found-there : Bytes tk → getD (placesOf tk) (recordAt tk (keyOf (corner tc n i))) origin ≡ corner tc n i
@@ -103,8 +87,8 @@ module _ (tc tk : List ℕ) (c : Checked tc tk) where
           ap (λ m. getD (placesOf tk) m origin) (sym first) ∙ sym (same→ p (getD (placesOf tk) (at .0) origin) (at .3))
 
   -- the table of what the look-ups gave holds the corners of all cells
-  pub octants-of : (keys levels t : List ℕ) → Bytes tk → Laid tc keys levels → LookedUp tk keys levels t (length tc / 4) → Octants tc tk t
-  octants-of keys levels t b laid o = record {
+  pub octants-of : (table t : List ℕ) → Bytes tk → Laid tc table → LookedUp tk table t (length tc / 4) → Octants tc tk t
+  octants-of table t b laid o = record {
     room = o .room;
     octant = λ n i h g. record {
       number = rw (is n i h g) (found n h i g b);
@@ -113,4 +97,4 @@ module _ (tc tk : List ℕ) (c : Checked tc tk) where
   }
     where
       is : (n i : ℕ) → n < length tc / 4 → i < 8 → getD t (8 * n + i) 0 ≡ recordAt tk (keyOf (corner tc n i))
-      is n i h g = o .number n i h g ∙ ap (recordAt tk) (corner-key tc keys levels n (laid .entered n h) i g)
+      is n i h g = o .number n i h g ∙ ap (recordAt tk) (corner-key tc table n (laid .entered n h) i g)

@@ -1,7 +1,7 @@
 // The refusals of a survey: document 01, "Outputs and refusals", checks 1 to 8 in their order. Uses records, cells and octants.
 ghost use mathlib.Core.Path.{_≡_};
 ghost use mathlib.Core.Bool.{true, not};
-ghost use Prim.Native.Nat.{ℕ, _+_, _*_, _≤_, _<_, _/_};
+ghost use Prim.Native.Nat.{_+_, _*_, _≤_, _<_, _/_};
 ghost use lib.ListN.{length, getD, set, take};
 ghost use lib.Dec.{ltb, eqb};
 ghost use Rattle.base.specs.Lists.{all, any, count as upTo};
@@ -91,12 +91,12 @@ fn all_marked(marks: &[u8], count: usize) -> bool
 }
 
 // Check 6: there is a record for every corner of every cell, and none else.
-fn corners_right(cells: &[u8], keys: &[u64], levels: &[u8], corners: &[u8], octants: &[u16]) -> bool
+fn corners_right(cells: &[u8], laid: &[u64], corners: &[u8], octants: &[u16]) -> bool
     requires { ⌜ entriesRight 0 0 (entries (now cells)) ≡ true ⌝ }
-    requires { ⌜ Laid (now cells) (now keys) (now levels) ⌝ }
+    requires { ⌜ Laid (now cells) (now laid) ⌝ }
     requires { ⌜ (length (now cells) ≤ 8196) × (length (now corners) ≤ 48720) ⌝ }
     requires { ⌜ rising (placesOf (now corners)) ≡ true ⌝ }
-    requires { ⌜ LookedUp (now corners) (now keys) (now levels) (now octants) (length (now cells) / 4) ⌝ }
+    requires { ⌜ LookedUp (now corners) (now laid) (now octants) (length (now cells) / 4) ⌝ }
     ensures { λ r. ⌜ r ≡ cornersRight (cellsOf (now (cells .entry))) (placesOf (now (corners .entry))) ⌝ }
 {
     let count = corners.len() / 10;
@@ -108,16 +108,10 @@ fn corners_right(cells: &[u8], keys: &[u64], levels: &[u8], corners: &[u8], octa
 }
 
 // Checks 1 to 7: the number of the first that applies, or 0. Then the tables hold the cells and their corners.
-pub fn read(
-    cells: &[u8],
-    corners: &[u8],
-    keys: &mut [u64],
-    levels: &mut [u8],
-    octants: &mut [u16],
-) -> u32
-    requires { ⌜ (length (now keys) ≡ 2049) × (length (now levels) ≡ 2049) × (length (now octants) ≡ 16392) ⌝ }
+pub fn read(cells: &[u8], corners: &[u8], laid: &mut [u64], octants: &mut [u16]) -> u32
+    requires { ⌜ (length (now laid) ≡ 2049) × (length (now octants) ≡ 16392) ⌝ }
     ensures { λ r. ⌜ r ≡ surveyRefusal (now (cells .entry)) (now (corners .entry)) ⌝ }
-    ensures { λ r. ⌜ (r ≡ 0 → Laid (now (cells .entry)) (now (keys .exit)) (now (levels .exit))) ⌝ }
+    ensures { λ r. ⌜ (r ≡ 0 → Laid (now (cells .entry)) (now (laid .exit))) ⌝ }
     ensures { λ r. ⌜ (r ≡ 0 → Octants (now (cells .entry)) (now (corners .entry)) (now (octants .exit))) ⌝ }
 {
     if bad_table(cells, 4, 8196) {
@@ -131,14 +125,14 @@ pub fn read(
     if !cells::entries_right(cells, records) {
         return 3;
     }
-    if cells::lay_out(cells, records, keys, levels) {
+    if cells::lay_out(cells, records, laid) {
         return 4;
     }
     if !records::corners_rise(corners, count) {
         return 5;
     }
-    octants::fill(corners, keys, levels, records, octants);
-    if !corners_right(cells, keys, levels, corners, octants) {
+    octants::fill(corners, laid, records, octants);
+    if !corners_right(cells, laid, corners, octants) {
         return 6;
     }
     if bad_sounding(corners, count) {
@@ -151,10 +145,9 @@ pub fn read(
 pub fn check(cells: &[u8], corners: &[u8]) -> u32
     ensures { λ r. ⌜ r ≡ surveyRefusal (now (cells .entry)) (now (corners .entry)) ⌝ }
 {
-    let mut keys = [0u64; 2049];
-    let mut levels = [0u8; 2049];
+    let mut laid = [0u64; 2049];
     let mut octants = [0u16; 16392];
-    read(cells, corners, &mut keys, &mut levels, &mut octants)
+    read(cells, corners, &mut laid, &mut octants)
 }
 
 // Checks 1 to 8, the clearance last: the number of the first that applies, or 0. Then the tables hold the cells and their corners.
@@ -162,16 +155,15 @@ pub fn refusal(
     cells: &[u8],
     corners: &[u8],
     clearance: f32,
-    keys: &mut [u64],
-    levels: &mut [u8],
+    laid: &mut [u64],
     octants: &mut [u16],
 ) -> u32
-    requires { ⌜ (length (now keys) ≡ 2049) × (length (now levels) ≡ 2049) × (length (now octants) ≡ 16392) ⌝ }
+    requires { ⌜ (length (now laid) ≡ 2049) × (length (now octants) ≡ 16392) ⌝ }
     ensures { λ r. ⌜ r ≡ firstOf (checks (now (cells .entry)) (now (corners .entry)) clearance) ⌝ }
-    ensures { λ r. ⌜ (r ≡ 0 → Laid (now (cells .entry)) (now (keys .exit)) (now (levels .exit))) ⌝ }
+    ensures { λ r. ⌜ (r ≡ 0 → Laid (now (cells .entry)) (now (laid .exit))) ⌝ }
     ensures { λ r. ⌜ (r ≡ 0 → Octants (now (cells .entry)) (now (corners .entry)) (now (octants .exit))) ⌝ }
 {
-    let number = read(cells, corners, keys, levels, octants);
+    let number = read(cells, corners, laid, octants);
     if number != 0 {
         return number;
     }

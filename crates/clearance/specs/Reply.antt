@@ -1,5 +1,4 @@
 -- The enquiry's answer as plain numbers, for C: document 01's number returned and, for a crossing, its values. What is not there is 0.
-use Prim.Native.Nat.{ℕ}
 use mathlib.Core.Bool.{cond}
 use lib.Dec.{eqb}
 use lib.Ieee.{Float, binary32, ofBits}

@@ -92,7 +92,7 @@ pub extern "C" fn clearance_enquire(
     ensures on_edge { λ r. ⌜ StaysOn (surveyOf (now (cells .entry)) (now (corners .entry)) clearance) (asked axis (record { x = x; y = y; z = z }) length)
         (told r) ⌝ }
 {
-    reply_of(edges::enquire(cells, corners, clearance, axis, x, y, z, length))
+    reply_of(enquiry::enquire(cells, corners, clearance, axis, x, y, z, length))
 }
 
 // Draws the surface of a survey at a clearance into the lent slices.

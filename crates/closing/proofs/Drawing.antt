@@ -21,7 +21,6 @@ use Rattle.rules.specs.Steps.{Triangle, Step, leafSteps, twinOf, met, onward, l
 use Rattle.rules.specs.Closing.{inOneFace, Carries, run, step, runs, meets}
 use Rattle.geometry.proofs.Interface.{leavesOf, tally, leave, enter, FaceLaws}
 use Rattle.closing.specs.Cutting.{Closes}
-use Rattle.closing.specs.Permutes.{Permutes}
 use Rattle.closing.proofs.Loops.{loops-once}
 use Rattle.closing.proofs.Leaf.{leafTriangles, onward-permutes, step-from, leaf-others, leaf-twins, leaf-passes}
 

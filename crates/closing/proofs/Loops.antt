@@ -22,7 +22,7 @@ use Rattle.rules.specs.Steps.{Triangle, until, loop, lowestFirst, loops}
 use Rattle.rules.specs.Closing.{run}
 use Rattle.closing.specs.Cutting.{turn, cycle, Closes}
 use Rattle.closing.specs.Permutes.{Permutes}
-use Rattle.closing.proofs.Walk.{far, trail, far-next, far-far, trail-has, trail-only, trail-path, Stops, far-in, trail-once, comes-back}
+use Rattle.closing.proofs.Walk.{far, trail, far-next, far-far, trail-has, trail-only, trail-path, far-in, trail-once, comes-back}
 
 -- ---- the lowest of a list
 

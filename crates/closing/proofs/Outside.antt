@@ -13,7 +13,7 @@ use Rattle.base.proofs.Lists.{any→in}
 use Rattle.rules.specs.Survey.{Survey}
 use Rattle.rules.specs.Edges.{CellEdge, upperEnd, odd, pointEdges}
 use Rattle.rules.specs.Steps.{Triangle, trianglesBy}
-use Rattle.rules.specs.Closing.{liesIn, inOneFace, isOdd, runs, Closed}
+use Rattle.rules.specs.Closing.{liesIn, inOneFace, isOdd, runs}
 use Rattle.octree.specs.Lawful.{Lawful}
 use Rattle.octree.proofs.Edges.{crossed→}
 use Rattle.octree.proofs.Points.{carried-crossed, alone}

@@ -1,5 +1,5 @@
 pub mod Slices
+pub mod Passed
 pub mod Drawn
 pub mod Outcome
-pub mod Passed
-pub mod Leaves
+pub mod Settling

@@ -1,7 +1,6 @@
 -- The three ways that drawing goes: refused by a check, by a slice that is too short, or drawn; each with what it returns and leaves in the slices.
 -- Assumes nothing.
 use Prim.Native.Nat.{ℕ, _*_, _≤_}
-use native.Mathlib.Omega.{arith}
 use mathlib.Core.Path.{_≡_, refl, sym, ap, _∙_, subst}
 use mathlib.Core.Bool.{Bool, true, false, cond}
 use mathlib.Core.List.{List, [], _∷_}
@@ -9,16 +8,13 @@ use lib.Dec.{T, eqb, ltb}
 use lib.ListN.{length}
 use lib.Ieee.{Float}
 use borrow.Author.Tests.{ne-eqb}
-use Rattle.base.specs.Lists.{collect}
 use Rattle.rules.specs.Edges.{pointEdges}
 use Rattle.rules.specs.Steps.{allTriangles}
-use Rattle.rules.specs.Outputs.{numbers, firstOf, checks, accepted, surveyOf, pointFloats, triangleNumbers, written, Drawing, draw}
+use Rattle.rules.specs.Outputs.{firstOf, checks, accepted, surveyOf, pointFloats, triangleNumbers, written, Drawing, draw}
 use Rattle.rules.specs.Closing.{ClosedIn}
 use Rattle.rules.specs.declared.Drawn.{Drawn}
 use Rattle.closing.proofs.Closing.{closes}
 use Rattle.places.proofs.OnEdge.{on-edge}
-use Rattle.loops.specs.Loops.{into}
-use Rattle.loops.proofs.Slices.{into-all, length-numbers}
 use Rattle.drawing.specs.Draws.{lent, Draws}
 use Rattle.drawing.proofs.Drawn.{given, shortness, draw-is, both-fit, drawn-fits, closed-in}
 
@@ -85,14 +81,6 @@ module _ (tc tk : List ℕ) (clearance : Float) (ps : List Float) (ts : List ℕ
     -- both slices have room
     pub fits : number ≡ 0 → (3 * n ≤ length ps) × (3 * m ≤ length ts)
     fits zero = both-fit (length ps) (length ts) (3 * n) (3 * m) (sym is ∙ zero)
-
-    -- triangles written as far as the slice goes are all written
-    pub triangles-written : number ≡ 0 → (new : List ℕ) → new ≡ into (collect numbers (allTriangles (surveyOf tc tk clearance))) ts
-        → new ≡ written (triangleNumbers tc tk clearance) ts
-    unfolding triangleNumbers
-    triangles-written zero new e =
-        let all = allTriangles (surveyOf tc tk clearance) in
-        e ∙ into-all (collect numbers all) ts (omega (arith, length-numbers all, fits zero .1, triangles-are))
 
     -- drawn: the points and the triangles are written
     pub drawn : number ≡ 0 → (newPoints : List Float) (newTriangles : List ℕ) → newPoints ≡ written (pointFloats tc tk clearance) ps

@@ -13,7 +13,6 @@ use Rattle.rules.specs.Survey.{entries, cellsOf}
 use Rattle.rules.specs.Outputs.{entriesRight, rising, surveyRefusal, accepted}
 use Rattle.octree.proofs.Accepted.{Checked, checked, accepted→}
 use Rattle.records.specs.Keys.{placesOf}
-use Rattle.records.proofs.Keys.{length-places}
 use Rattle.cells.specs.Laid.{tooDeep}
 use Rattle.edges.specs.Tables.{Levels}
 use Rattle.edges.proofs.Notes.{none-noted}
@@ -38,9 +37,12 @@ module _ (tc tk : List ℕ) (clearance : Float) (ok : accepted tc tk clearance �
   pub few-corners : length tk ≤ 48720
   few-corners = corners-few tc tk unrefused
 
+  pub few-cells : length tc ≤ 8196
+  few-cells = cells-few tc tk unrefused
+
   pub few-records : length tc / 4 ≤ 2049
   few-records = let h = cells-few tc tk unrefused in omega arith
 
-  -- the tables of levels before any edge is noted
-  pub levels-fresh : Levels tk [] (replicate 14616 11) (replicate 14616 0) (replicate 14616 0)
-  levels-fresh = none-noted tk 14616 refl (let h = few-corners in omega arith)
+  -- the table of slots before any edge is noted
+  pub levels-fresh : Levels tk [] (replicate 43848 11)
+  levels-fresh = none-noted tk 43848 refl (let h = few-corners in omega arith)

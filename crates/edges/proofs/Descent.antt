@@ -16,7 +16,8 @@ use Rattle.rules.specs.Outputs.{accepted, surveyOf}
 use Rattle.records.specs.Keys.{placesOf}
 use Rattle.records.proofs.Keys.{length-places}
 use Rattle.octree.proofs.Halves.{one-odd-half}
-use Rattle.edges.specs.Tables.{placeAt, lowestLevel, crossedAt, crossedSlot, slotsBelow, slotEdge, Lowest, Wets, OddEdge, UpperEnd, CarrierSlot}
+use Rattle.edges.specs.Tables.{placeAt, lowestLevel, crossedAt, crossedSlot, slotsBelow, slotEdge, lowestAt, Levelled, Wets}
+use Rattle.edges.specs.Tables.{OddEdge, UpperEnd, CarrierSlot}
 use Rattle.edges.proofs.Levels.{edge→levels, carrier-here, carrier-below, halves-below}
 use Rattle.edges.proofs.Points.{slot-is, edge-is, slot-number}
 use Rattle.edges.proofs.Readings.{edges-law, few-places, lowest-read, odd-read}
@@ -30,7 +31,7 @@ pub point-is : (s : Survey) (e : CellEdge) → pointOf s e ≡ numberOf s (carri
 unfolding pointOf
 point-is s e = refl
 
-module _ (tc tk : List ℕ) (clearance : Float) (ok : accepted tc tk clearance ≡ true) (lowest : List ℕ) (low : Lowest tc tk lowest) (n : ℕ) (g : n < 3) where
+module _ (tc tk : List ℕ) (clearance : Float) (ok : accepted tc tk clearance ≡ true) (slots : List ℕ) (known : Levelled tc tk slots) (n : ℕ) (g : n < 3) where
   abbrev s : Survey
   s = surveyOf tc tk clearance
 
@@ -45,12 +46,12 @@ module _ (tc tk : List ℕ) (clearance : Float) (ok : accepted tc tk clearance �
   odd-level k l o = edges-law tc tk clearance ok .shallow a (at k) l (o .is-edge)
 
   -- an edge above the lowest level at its record: both halves are edges
-  module _ (k m l : ℕ) (q : m ≡ suc l) (o : OddEdge tc tk clearance (axisOf n) k m) (d : getD lowest (4872 * n + k) 0 < m) where
+  module _ (k m l : ℕ) (q : m ≡ suc l) (o : OddEdge tc tk clearance (axisOf n) k m) (d : lowestAt slots (4872 * n + k) < m) where
     whole : T (isEdge (cellsOf tc) a (at k) (suc l))
     whole = subst (λ (j : ℕ). T (isEdge (cellsOf tc) a (at k) j)) q (o .is-edge)
 
     above-lowest : lowestLevel (surveyOf tc tk clearance) (axisOf n) (placeAt (placesOf tk) k) ≤ l
-    above-lowest = omega (arith, lowest-read tc tk clearance ok lowest low n k (4872 * n + k) refl g (o .inside))
+    above-lowest = omega (arith, lowest-read tc tk clearance ok slots known n k (4872 * n + k) refl g (o .inside))
 
     both : T (isEdge (cellsOf tc) a (at k) l) × T (isEdge (cellsOf tc) a (move a (2 ^ l) (at k)) l)
     unfolding surveyOf
@@ -98,11 +99,11 @@ module _ (tc tk : List ℕ) (clearance : Float) (ok : accepted tc tk clearance �
             )
 
   -- at the lowest level the slot has the number
-  module _ (k l : ℕ) (o : OddEdge tc tk clearance (axisOf n) k l) (h : l ≤ getD lowest (4872 * n + k) 0) where
+  module _ (k l : ℕ) (o : OddEdge tc tk clearance (axisOf n) k l) (h : l ≤ lowestAt slots (4872 * n + k)) where
     at-lowest : l ≡ lowestLevel (surveyOf tc tk clearance) (axisOf n) (placeAt (placesOf tk) k)
     unfolding surveyOf
     at-lowest =
-        let r = lowest-read tc tk clearance ok lowest low n k (4872 * n + k) refl g (o .inside) in
+        let r = lowest-read tc tk clearance ok slots known n k (4872 * n + k) refl g (o .inside) in
         let e = edge→levels s (edges-law tc tk clearance ok) a (at k) l (o .is-edge) .0 in
         omega arith
 
@@ -123,7 +124,7 @@ module _ (tc tk : List ℕ) (clearance : Float) (ok : accepted tc tk clearance �
         sym (carrier-here s (edges-law tc tk clearance ok) a (at k) l (o .is-edge) (omega (arith, at-lowest)))
 
   -- the slot at the end of the way down
-  pub slot-found : (k l k₀ l₀ : ℕ) → OddEdge tc tk clearance (axisOf n) k l → l ≤ getD lowest (4872 * n + k) 0 →
+  pub slot-found : (k l k₀ l₀ : ℕ) → OddEdge tc tk clearance (axisOf n) k l → l ≤ lowestAt slots (4872 * n + k) →
       carrier (surveyOf tc tk clearance) (axisOf n) (placeAt (placesOf tk) k) l ≡ carrier (surveyOf tc tk clearance) (axisOf n) (placeAt (placesOf tk) k₀) l₀ →
       CarrierSlot (surveyOf tc tk clearance) (axisOf n) (placeAt (placesOf tk) k₀) l₀ (4872 * n + k)
   unfolding surveyOf

@@ -2,6 +2,8 @@ pub mod Starts
 pub mod Levels
 pub mod Points
 pub mod Find
+pub mod CellEdges
+pub mod Entries
 pub mod Notes
 pub mod Surveyed
 pub mod Filled
@@ -9,9 +11,6 @@ pub mod Lawfully
 pub mod Readings
 pub mod Numbering
 pub mod Descent
-pub mod Climbing
-pub mod Twins
-pub mod TwinSlots
+pub mod Seeking
+pub mod PointSlots
 pub mod Places
-pub mod Enquiring
-pub mod Staying

@@ -1,17 +1,16 @@
--- Noting edges in the tables of levels and upper ends: one edge, those of a cell one after another, those of all cells.
-use Prim.Native.Nat.{ℕ, zero, suc, _+_, _*_, _/_, _≤_, _<_, min, max}
+-- Noting edges in the table of slots: one edge, those of a cell one after another, those of all cells.
+use Prim.Native.Nat.{ℕ, zero, suc, _+_, _*_, _/_, _%_, _≤_, _<_, min, max}
 use mathlib.Core.Path.{_≡_, refl, sym, ap, _∙_, subst}
 use mathlib.Core.Logic.{_⊎_, inl, inr}
 use mathlib.Core.Bool.{Bool, true, false, cond}
 use mathlib.Core.List.{List, [], _∷_, _++_}
 use native.Mathlib.Decide.{ℕ-discrete}
 use native.Mathlib.Omega.{arith}
-use lib.Dec.{T, eqb, eqb→eq, ltb, ltb→lt}
-use lib.ListN.{length, getD, set, drop, length-set, replicate, length-replicate, getD-replicate}
-use lib.Seq.{getD-set-same, getD-set-other}
+use lib.Dec.{T, eqb, eqb→eq, ltb}
+use lib.ListN.{length, getD, drop, replicate, length-replicate, getD-replicate}
 use borrow.Author.Tests.{lt-ltb, le-ltb}
 use Rattle.base.specs.Lists.{collect}
-use Rattle.base.specs.Grid.{Place, origin, Axis, X, move, axisOf, axisNumber, same, octants}
+use Rattle.base.specs.Grid.{Place, origin, Axis, X, move, axisOf, axisNumber, same}
 use Rattle.base.proofs.Tests.{and→, either, true→, below}
 use Rattle.base.proofs.Places.{same→}
 use Rattle.base.proofs.Below.{rest}
@@ -19,12 +18,16 @@ use Rattle.rules.specs.Survey.{Cell, size}
 use Rattle.rules.specs.Edges.{CellEdge, edge}
 use Rattle.rules.specs.Outputs.{rising}
 use Rattle.records.specs.Keys.{placesOf}
-use Rattle.records.proofs.Keys.{Bytes, length-places}
+use Rattle.records.proofs.Keys.{Bytes}
 use Rattle.cells.specs.Laid.{cellAt}
 use Rattle.octants.specs.Octants.{Octant, Octants}
-use Rattle.edges.specs.Tables.{cellEdges, edgesOf, startsAt, lowestIn, highestIn, placeAt, Tabled, UpperEnd, FarEnds, Levels}
+use Rattle.edges.specs.Tables.{cellEdges, starts, ends, edgesOf, startsAt, lowestIn, highestIn, placeAt, lowestAt, highestAt, farAt}
+use Rattle.edges.specs.Tables.{Tabled, UpperEnd, FarEnds, Levels}
+use Rattle.edges.specs.Noting.{withEdge}
+use Rattle.edges.proofs.Entries.{edge-size, edge-low, edge-high, edge-far, edge-low-other, edge-high-other, edge-far-other}
 use Rattle.edges.proofs.Starts.{→start}
 use Rattle.edges.proofs.Find.{one-record}
+use Rattle.edges.proofs.CellEdges.{start-below, end-below, starting, ending}
 
 axis-number : (n m : ℕ) → n < 3 → m < 3 → axisNumber (axisOf n) ≡ axisNumber (axisOf m) → n ≡ m
 axis-number zero zero g h e = refl
@@ -54,7 +57,7 @@ unfolding highestIn
 high-step e es a p = refl
 
 -- One more edge, of level l, from corner record k on, on axis n.
-module _ (tk : List ℕ) (b : Bytes tk) (up : rising (placesOf tk) ≡ true) (few : length tk / 10 ≤ 4872) (n k l : ℕ) (g : n < 3) (h : k < length tk / 10) where
+module _ (tk : List ℕ) (b : Bytes tk) (up : rising (placesOf tk) ≡ true) (few : length tk / 10 ≤ 4872) (n k l : ℕ) (g₀ : n < 3) (h : k < length tk / 10) where
   abbrev new : CellEdge
   new = edge (axisOf n) (placeAt (placesOf tk) k) l
 
@@ -73,76 +76,59 @@ module _ (tk : List ℕ) (b : Bytes tk) (up : rising (placesOf tk) ≡ true) (fe
       go (no s) (inl u) =
           let w = and→ (same (placeAt (placesOf tk) j) (placeAt (placesOf tk) k)) (eqb (axisNumber (axisOf m)) (axisNumber (axisOf n))) u in
           let c = one-record tk b up j k q h (same→ (placeAt (placesOf tk) j) (placeAt (placesOf tk) k) (w .0)) in
-          let a = axis-number m n p g (eqb→eq (axisNumber (axisOf m)) (axisNumber (axisOf n)) (w .1)) in
+          let a = axis-number m n p g₀ (eqb→eq (axisNumber (axisOf m)) (axisNumber (axisOf n)) (w .1)) in
           absurd (s (λ i. 4872 * a i + c i))
       go (no s) (inr u) = inr (s, u)
 
-  -- a table of f over the edges, where the edge changes f by `take` at its start
+  -- g is of f over the edges, and g' after the edge, which changes f by `take` at its start
   tabled-more : (take : ℕ → ℕ → ℕ) (f : List CellEdge → Axis → Place → ℕ) →
       ((e : CellEdge) (es : List CellEdge) (a : Axis) (p : Place) → f (e ∷ es) a p ≡ cond (startsAt a p e) (take (e .level) (f es a p)) (f es a p)) →
-      (es : List CellEdge) (table : List ℕ) → Tabled (placesOf tk) (f es) table →
-      Tabled (placesOf tk) (f (edge (axisOf n) (placeAt (placesOf tk) k) l ∷ es)) (set table (4872 * n + k) (take l (getD table (4872 * n + k) 0)))
-  tabled-more take f step es table t = record {
-    size = length-set table (4872 * n + k) (take l (getD table (4872 * n + k) 0)) ∙ t .size;
-    entry = λ m j p q. let i : j < length tk / 10 = omega (arith, length-places tk) in go m j p q (slot-or-not m j p i);
-  }
+      (es : List CellEdge) (g g' : ℕ → ℕ) → g' (4872 * n + k) ≡ take l (g (4872 * n + k)) → ((i : ℕ) → (i ≡ 4872 * n + k → ⊥) → g' i ≡ g i) →
+      Tabled tk (f es) g → Tabled tk (f (edge (axisOf n) (placeAt (placesOf tk) k) l ∷ es)) g'
+  tabled-more take f step es g g' same other t = λ m j p q. go m j p q (slot-or-not m j p q)
     where
-      v : ℕ
-      v = take l (getD table (4872 * n + k) 0)
-
       branch : Axis → Place → Bool → ℕ
       branch a p c = cond c (take l (f es a p)) (f es a p)
 
-      here : getD (set table (4872 * n + k) v) (4872 * n + k) 0 ≡ f (new ∷ es) (axisOf n) (placeAt (placesOf tk) k)
-      here =
-          let z = t .size in
-          getD-set-same table (4872 * n + k) v 0 (omega arith) ∙ ap (take l) (t .entry n k g (omega (arith, length-places tk))) ∙
-          sym (step new es (axisOf n) (placeAt (placesOf tk) k) ∙ ap (branch (axisOf n) (placeAt (placesOf tk) k)) starts-here)
-
-      go : (m j : ℕ) → m < 3 → j < length (placesOf tk) →
+      go : (m j : ℕ) → m < 3 → j < length tk / 10 →
           ((m ≡ n) × (j ≡ k)) ⊎ ((4872 * m + j ≡ 4872 * n + k → ⊥) × (startsAt (axisOf m) (placeAt (placesOf tk) j) new ≡ false)) →
-          getD (set table (4872 * n + k) v) (4872 * m + j) 0 ≡ f (new ∷ es) (axisOf m) (placeAt (placesOf tk) j)
-      go m j p q (inl (x, y)) = rw (x, y) here
+          g' (4872 * m + j) ≡ f (new ∷ es) (axisOf m) (placeAt (placesOf tk) j)
+      go m j p q (inl (x, y)) =
+          rw (x, y) (same ∙ ap (take l) (t n k g₀ h) ∙
+          sym (step new es (axisOf n) (placeAt (placesOf tk) k) ∙ ap (branch (axisOf n) (placeAt (placesOf tk) k)) starts-here))
       go m j p q (inr (s, u)) =
-          getD-set-other table (4872 * n + k) (4872 * m + j) v 0 s ∙ t .entry m j p q ∙
+          other (4872 * m + j) s ∙ t m j p q ∙
           sym (step new es (axisOf m) (placeAt (placesOf tk) j) ∙ ap (branch (axisOf m) (placeAt (placesOf tk) j)) u)
 
-  -- the table of upper ends, where m is that of the edge, and `low` the lowest level before
-  module _ (es : List CellEdge) (far : List ℕ) (t : FarEnds tk es far) (m low : ℕ) (e : low ≡ lowestIn es (axisOf n) (placeAt (placesOf tk) k))
+  -- the upper ends, where m is that of the edge, and `low` the lowest level before
+  module _ (es : List CellEdge) (g g' : ℕ → ℕ) (t : FarEnds tk es g) (m low : ℕ) (e : low ≡ lowestIn es (axisOf n) (placeAt (placesOf tk) k))
       (u : UpperEnd tk (axisOf n) k l m) where
-    abbrev new-end : ℕ
-    new-end = cond (ltb l low) m (getD far (4872 * n + k) 0)
-
     low-here : lowestIn (new ∷ es) (axisOf n) (placeAt (placesOf tk) k) ≡ min l low
     low-here =
         low-step new es (axisOf n) (placeAt (placesOf tk) k) ∙
         ap (λ c. cond c (min l (lowestIn es (axisOf n) (placeAt (placesOf tk) k))) (lowestIn es (axisOf n) (placeAt (placesOf tk) k))) starts-here ∙
         ap (min l) (sym e)
 
-    end-here : min l low < 11 → UpperEnd tk (axisOf n) k (min l low) new-end
+    end-here : min l low < 11 → UpperEnd tk (axisOf n) k (min l low) (cond (ltb l low) m (g (4872 * n + k)))
     end-here o = go (below l low)
       where
-        go : (l < low) ⊎ (low ≤ l) → UpperEnd tk (axisOf n) k (min l low) new-end
+        go : (l < low) ⊎ (low ≤ l) → UpperEnd tk (axisOf n) k (min l low) (cond (ltb l low) m (g (4872 * n + k)))
         go (inl s) = let q : l ≡ min l low = omega arith in rw (lt-ltb l low s) (subst (λ i. UpperEnd tk (axisOf n) k i m) q u)
         go (inr s) =
             let q : lowestIn es (axisOf n) (placeAt (placesOf tk) k) ≡ min l low = omega arith in
-            rw (le-ltb l low s) (subst (λ i. UpperEnd tk (axisOf n) k i (getD far (4872 * n + k) 0)) q (t .entry n k g h (omega arith)))
+            rw (le-ltb l low s) (subst (λ i. UpperEnd tk (axisOf n) k i (g (4872 * n + k))) q (t n k g₀ h (omega arith)))
 
-    ends-more : FarEnds tk (edge (axisOf n) (placeAt (placesOf tk) k) l ∷ es) (set far (4872 * n + k) (cond (ltb l low) m (getD far (4872 * n + k) 0)))
-    ends-more = record {
-      size = length-set far (4872 * n + k) new-end ∙ t .size;
-      entry = λ i j p q. go i j p q (slot-or-not i j p q);
-    }
+    ends-more : g' (4872 * n + k) ≡ cond (ltb l low) m (g (4872 * n + k)) → ((i : ℕ) → (i ≡ 4872 * n + k → ⊥) → g' i ≡ g i) →
+        FarEnds tk (edge (axisOf n) (placeAt (placesOf tk) k) l ∷ es) g'
+    ends-more same other = λ i j p q. go i j p q (slot-or-not i j p q)
       where
         at : ℕ → ℕ → Type 0
         at i j =
             lowestIn (new ∷ es) (axisOf i) (placeAt (placesOf tk) j) < 11 →
-            UpperEnd tk (axisOf i) j (lowestIn (new ∷ es) (axisOf i) (placeAt (placesOf tk) j)) (getD (set far (4872 * n + k) new-end) (4872 * i + j) 0)
+            UpperEnd tk (axisOf i) j (lowestIn (new ∷ es) (axisOf i) (placeAt (placesOf tk) j)) (g' (4872 * i + j))
 
         here : at n k
-        here o =
-            let z = t .size in
-            rw (low-here, getD-set-same far (4872 * n + k) new-end 0 (omega arith)) (end-here (omega (arith, low-here)))
+        here o = rw (low-here, same) (end-here (omega (arith, low-here)))
 
         go : (i j : ℕ) → i < 3 → j < length tk / 10 →
             ((i ≡ n) × (j ≡ k)) ⊎ ((4872 * i + j ≡ 4872 * n + k → ⊥) × (startsAt (axisOf i) (placeAt (placesOf tk) j) new ≡ false)) → at i j
@@ -151,112 +137,51 @@ module _ (tk : List ℕ) (b : Bytes tk) (up : rising (placesOf tk) ≡ true) (fe
             let r : lowestIn (new ∷ es) (axisOf i) (placeAt (placesOf tk) j) ≡ lowestIn es (axisOf i) (placeAt (placesOf tk) j) =
             low-step new es (axisOf i) (placeAt (placesOf tk) j) ∙
             ap (λ d. cond d (min l (lowestIn es (axisOf i) (placeAt (placesOf tk) j))) (lowestIn es (axisOf i) (placeAt (placesOf tk) j))) c in
-            rw (r, getD-set-other far (4872 * n + k) (4872 * i + j) new-end 0 s) (t .entry i j p q (omega arith))
+            rw (r, other (4872 * i + j) s) (t i j p q (omega arith))
 
-  -- all three tables, as the code changes them
-  note-one : (m : ℕ) → UpperEnd tk (axisOf n) k l m → (es : List CellEdge) (lowest highest far : List ℕ) → Levels tk es lowest highest far →
-      Levels tk (edge (axisOf n) (placeAt (placesOf tk) k) l ∷ es)
-      (set lowest (4872 * n + k) (min l (getD lowest (4872 * n + k) 0)))
-      (set highest (4872 * n + k) (max l (getD highest (4872 * n + k) 0)))
-      (set far (4872 * n + k) (cond (ltb l (getD lowest (4872 * n + k) 0)) m (getD far (4872 * n + k) 0)))
-  note-one m u es lowest highest far v = record {
-    low = tabled-more min lowestIn low-step es lowest (v .low);
-    high = tabled-more max highestIn high-step es highest (v .high);
-    ends = ends-more es far (v .ends) m (getD lowest (4872 * n + k) 0) (v .low .entry n k g (omega (arith, length-places tk))) u;
-  }
+  -- the table, as the code changes it
+  note-one : l ≤ 10 → (m : ℕ) → UpperEnd tk (axisOf n) k l m → (es : List CellEdge) (slots : List ℕ) → Levels tk es slots →
+      Levels tk (edge (axisOf n) (placeAt (placesOf tk) k) l ∷ es) (withEdge slots (4872 * n + k) l m)
+  note-one small m u es slots v =
+      let i = 4872 * n + k in
+      let inside : i < 14616 = omega arith in
+      record {
+        size = edge-size slots (v .size) i l m;
+        low = tabled-more min lowestIn low-step es (lowestAt slots) _ (edge-low slots (v .size) i l m inside small) (edge-low-other slots (v .size) i l m)
+            (v .low);
+        high = tabled-more max highestIn high-step es (highestAt slots) _ (edge-high slots (v .size) i l m inside small)
+            (edge-high-other slots (v .size) i l m) (v .high);
+        far = ends-more es (farAt slots) _ (v .far) m (lowestAt slots i) (v .low n k g₀ h) u (edge-far slots (v .size) i l m inside small)
+            (edge-far-other slots (v .size) i l m);
+      }
 
-pub levels-same : (tk : List ℕ) (es fs : List CellEdge) (lowest highest far : List ℕ) → es ≡ fs → Levels tk es lowest highest far →
-    Levels tk fs lowest highest far
-levels-same tk es fs lowest highest far e v = subst (λ gs. Levels tk gs lowest highest far) e v
+pub levels-same : (tk : List ℕ) (es fs : List CellEdge) (slots : List ℕ) → es ≡ fs → Levels tk es slots → Levels tk fs slots
+levels-same tk es fs slots e v = subst (λ gs. Levels tk gs slots) e v
 
--- no edge yet
-pub none-noted : (tk : List ℕ) (w : ℕ) → w ≡ 14616 → length tk / 10 ≤ 4872 → Levels tk [] (replicate w 11) (replicate w 0) (replicate w 0)
-unfolding lowestIn highestIn
+-- a table of 11 everywhere: no edge yet
+pub none-noted : (tk : List ℕ) (w : ℕ) → w ≡ 43848 → length tk / 10 ≤ 4872 → Levels tk [] (replicate w 11)
+unfolding lowestIn highestIn lowestAt highestAt
 none-noted tk w e few = record {
-  low = record { size = length-replicate w 11 ∙ e; entry = λ n k g h. getD-replicate w (4872 * n + k) 11 0 (omega (arith, length-places tk)) };
-  high = record { size = length-replicate w 0 ∙ e; entry = λ n k g h. getD-replicate w (4872 * n + k) 0 0 (omega (arith, length-places tk)) };
-  ends = record { size = length-replicate w 0 ∙ e; entry = λ n k g h o. absurd (omega arith) };
+  size = length-replicate w 11 ∙ e;
+  low = λ n k g h. ap (λ v. v % 16) (getD-replicate w (3 * (4872 * n + k)) 11 0 (omega arith));
+  high = λ n k g h. ap (λ v. v / 16 % 16) (getD-replicate w (3 * (4872 * n + k)) 11 0 (omega arith));
+  far = λ n k g h o. absurd (omega arith);
 }
 
 -- ---- the twelve edges of a cell
 
--- the corners of a cell at which they start and end
-abbrev pub starts : List ℕ
-starts = 0 ∷ 2 ∷ 4 ∷ 6 ∷ 0 ∷ 4 ∷ 1 ∷ 5 ∷ 0 ∷ 1 ∷ 2 ∷ 3 ∷ []
-
-abbrev pub ends : List ℕ
-ends = 1 ∷ 3 ∷ 5 ∷ 7 ∷ 2 ∷ 6 ∷ 3 ∷ 7 ∷ 4 ∷ 5 ∷ 6 ∷ 7 ∷ []
-
--- a statement holds of the numbers below n
-abbrev Below : ℕ → (ℕ → Type 0) → Type 0
-Below zero f = Unit {0}
-Below (suc n) f = f 0 × Below n (λ i. f (suc i))
-
-below-at : (n : ℕ) (f : ℕ → Type 0) → Below n f → (i : ℕ) → i < n → f i
-below-at zero f b i h = absurd (omega arith)
-below-at (suc n) f b zero h = b .0
-below-at (suc n) f b (suc i) h = below-at n (λ j. f (suc j)) (b .1) i (omega arith)
-
-module _ (c : Cell) where
-  abbrev corner : ℕ → Place
-  corner i = getD (octants (size c) (c .low)) i origin
-
-  -- edge e is on axis e / 4, from its start to its end
-  abbrev Placed : ℕ → Type 0
-  Placed e =
-      T (ltb (getD starts e 0) 8) × T (ltb (getD ends e 0) 8) ×
-      (getD (cellEdges c) e (edge X origin 0) ≡ edge (axisOf (e / 4)) (corner (getD starts e 0)) (c .level)) ×
-      (corner (getD ends e 0) ≡ move (axisOf (e / 4)) (size c) (corner (getD starts e 0)))
-
-  placed : (e : ℕ) → e < 12 → Placed e
-  placed =
-      below-at 12 Placed (
-        (tt, tt, refl, refl),
-        (
-          (tt, tt, refl, refl),
-          (
-            (tt, tt, refl, refl),
-            (
-              (tt, tt, refl, refl),
-              (
-                (tt, tt, refl, refl),
-                (
-                  (tt, tt, refl, refl),
-                  (
-                    (tt, tt, refl, refl),
-                    (
-                      (tt, tt, refl, refl),
-                      (
-                        (tt, tt, refl, refl),
-                        ((tt, tt, refl, refl), ((tt, tt, refl, refl), ((tt, tt, refl, refl), tt))),
-                      ),
-                    ),
-                  ),
-                ),
-              ),
-            ),
-          ),
-        ),
-      )
-
 module _ (tc tk t : List ℕ) (o : Octants tc tk t) (n : ℕ) (h : n < length tc / 4) (e : ℕ) (g : e < 12) where
-  pub start-below : getD starts e 0 < 8
-  start-below = ltb→lt (getD starts e 0) 8 (placed (cellAt tc n) e g .0)
-
-  pub end-below : getD ends e 0 < 8
-  end-below = ltb→lt (getD ends e 0) 8 (placed (cellAt tc n) e g .1)
-
   pub start-octant : Octant tc tk n (getD starts e 0) (getD t (8 * n + getD starts e 0) 0)
-  start-octant = o .octant n (getD starts e 0) h start-below
+  start-octant = o .octant n (getD starts e 0) h (start-below e g)
 
   pub end-octant : Octant tc tk n (getD ends e 0) (getD t (8 * n + getD ends e 0) 0)
-  end-octant = o .octant n (getD ends e 0) h end-below
+  end-octant = o .octant n (getD ends e 0) h (end-below e g)
 
   upper-end : UpperEnd tk (axisOf (e / 4)) (getD t (8 * n + getD starts e 0) 0) (cellAt tc n .level) (getD t (8 * n + getD ends e 0) 0)
   upper-end = record {
     inside = end-octant .number;
     place =
-        end-octant .place ∙ placed (cellAt tc n) e g .3 ∙
+        end-octant .place ∙ ending e g (cellAt tc n) ∙
         ap (move (axisOf (e / 4)) (size (cellAt tc n))) (sym (start-octant .place));
   }
 
@@ -264,21 +189,19 @@ module _ (tc tk t : List ℕ) (o : Octants tc tk t) (n : ℕ) (h : n < length tc
       drop e (cellEdges (cellAt tc n))
   edge-is =
       ap (λ p. edge (axisOf (e / 4)) p (cellAt tc n .level) ∷ drop (e + 1) (cellEdges (cellAt tc n))) (start-octant .place) ∙
-      ap (λ d. d ∷ drop (e + 1) (cellEdges (cellAt tc n))) (sym (placed (cellAt tc n) e g .2)) ∙
+      ap (λ d. d ∷ drop (e + 1) (cellEdges (cellAt tc n))) (sym (starting e g (cellAt tc n))) ∙
       sym (rest (cellEdges (cellAt tc n)) e (edge X origin 0) g)
 
   -- edge e of the cell of record n is noted, after those behind it
-  pub note-next : Bytes tk → rising (placesOf tk) ≡ true → length tk / 10 ≤ 4872 → (es : List CellEdge) (lowest highest far : List ℕ) →
-      Levels tk (drop (e + 1) (cellEdges (cellAt tc n)) ++ es) lowest highest far → (l slot : ℕ) → l ≡ cellAt tc n .level →
-      slot ≡ 4872 * (e / 4) + getD t (8 * n + getD starts e 0) 0 → (lowest' highest' far' : List ℕ) →
-      lowest' ≡ set lowest slot (min l (getD lowest slot 0)) → highest' ≡ set highest slot (max l (getD highest slot 0)) →
-      far' ≡ set far slot (cond (ltb l (getD lowest slot 0)) (getD t (8 * n + getD ends e 0) 0) (getD far slot 0)) →
-      Levels tk (drop e (cellEdges (cellAt tc n)) ++ es) lowest' highest' far'
-  note-next b up few es lowest highest far v l slot q r lowest' highest' far' x y z =
-      rw (x, y, z, r, q)
-      (levels-same tk _ _ _ _ _ (ap (λ fs. fs ++ es) edge-is)
-      (note-one tk b up few (e / 4) (getD t (8 * n + getD starts e 0) 0) (cellAt tc n .level) (omega arith) (start-octant .number)
-      (getD t (8 * n + getD ends e 0) 0) upper-end (drop (e + 1) (cellEdges (cellAt tc n)) ++ es) lowest highest far v))
+  pub note-next : Bytes tk → rising (placesOf tk) ≡ true → length tk / 10 ≤ 4872 → cellAt tc n .level ≤ 10 → (es : List CellEdge) (slots : List ℕ) →
+      Levels tk (drop (e + 1) (cellEdges (cellAt tc n)) ++ es) slots → (l slot : ℕ) → l ≡ cellAt tc n .level →
+      slot ≡ 4872 * (e / 4) + getD t (8 * n + getD starts e 0) 0 → (slots' : List ℕ) → slots' ≡ withEdge slots slot l (getD t (8 * n + getD ends e 0) 0) →
+      Levels tk (drop e (cellEdges (cellAt tc n)) ++ es) slots'
+  note-next b up few small es slots v l slot q r slots' x =
+      rw (x, r, q)
+      (levels-same tk _ _ _ (ap (λ fs. fs ++ es) edge-is)
+      (note-one tk b up few (e / 4) (getD t (8 * n + getD starts e 0) 0) (cellAt tc n .level) (omega arith) (start-octant .number) small
+      (getD t (8 * n + getD ends e 0) 0) upper-end (drop (e + 1) (cellEdges (cellAt tc n)) ++ es) slots v))
 
 -- ---- all cells
 

@@ -6,7 +6,7 @@ use mathlib.Core.List.{List}
 use native.Mathlib.Omega.{arith}
 use lib.Dec.{T}
 use lib.Ieee.{Float}
-use lib.ListN.{length, getD}
+use lib.ListN.{length}
 use Rattle.base.specs.Grid.{Axis, axisOf}
 use Rattle.rules.specs.Survey.{cornerRecord, cornersOf, placeOf, cornerAt}
 use Rattle.rules.specs.Edges.{edge, spotOn}
@@ -16,10 +16,10 @@ use Rattle.places.proofs.Reckoned.{spot-on}
 use Rattle.records.specs.Keys.{keyOf, placesOf, recordAt}
 use Rattle.records.proofs.Keys.{Bytes, record-short, get-place}
 use Rattle.records.proofs.Found.{corner-found}
-use Rattle.edges.specs.Tables.{placeAt, slotEdge, crossedSlot, Lowest, UpperEnd}
+use Rattle.edges.specs.Tables.{placeAt, slotEdge, crossedSlot, lowestAt, Levelled, UpperEnd}
 use Rattle.edges.proofs.Find.{found-self}
 use Rattle.edges.proofs.Readings.{lowest-read}
-use Rattle.edges.proofs.TwinSlots.{slot-edge, slot-odd-edge}
+use Rattle.edges.proofs.PointSlots.{slot-edge, slot-odd-edge}
 
 -- the corner at a record's place is the record
 pub record-corner : (t : List ℕ) → Bytes t → rising (placesOf t) ≡ true → (k : ℕ) → k < length t / 10 → cornerRecord t k ≡ cornerAt (cornersOf t)
@@ -37,12 +37,12 @@ spot-read t b up clearance a k m l h u =
     spot-on (cornersOf t) clearance (edge a (placeAt (placesOf t) k) l)
 
 -- the edge of a slot, as the tables have it
-pub slot-edge-read : (tc tk : List ℕ) (clearance : Float) (ok : accepted tc tk clearance ≡ true) (lowest : List ℕ) → Lowest tc tk lowest → (i : ℕ) → i < 14616 →
+pub slot-edge-read : (tc tk : List ℕ) (clearance : Float) (ok : accepted tc tk clearance ≡ true) (slots : List ℕ) → Levelled tc tk slots → (i : ℕ) → i < 14616 →
     T (crossedSlot (surveyOf tc tk clearance) i) →
-    edge (axisOf (i / 4872)) (placeAt (placesOf tk) (i % 4872)) (getD lowest i 0) ≡ slotEdge (surveyOf tc tk clearance) i
+    edge (axisOf (i / 4872)) (placeAt (placesOf tk) (i % 4872)) (lowestAt slots i) ≡ slotEdge (surveyOf tc tk clearance) i
 unfolding surveyOf
-slot-edge-read tc tk clearance ok lowest low i h t =
+slot-edge-read tc tk clearance ok slots known i h t =
     ap (edge (axisOf (i / 4872)) (placeAt (placesOf tk) (i % 4872)))
-    (lowest-read tc tk clearance ok lowest low (i / 4872) (i % 4872) i (omega arith) (omega arith) (slot-odd-edge tc tk clearance ok lowest low i h
+    (lowest-read tc tk clearance ok slots known (i / 4872) (i % 4872) i (omega arith) (omega arith) (slot-odd-edge tc tk clearance ok slots known i h
     t .inside)) ∙
     sym (slot-edge (surveyOf tc tk clearance) i)

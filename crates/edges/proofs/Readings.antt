@@ -1,6 +1,7 @@
 -- What the code reads from the tables, in the words of the rules; of a survey that is accepted at a clearance.
 use Prim.Native.Nat.{ℕ, _+_, _*_, _/_, _%_, _^_, _≤_, _<_}
 use mathlib.Core.Path.{_≡_, refl, sym, ap, _∙_, subst}
+use mathlib.Core.Logic.{_⊎_, inl, inr}
 use mathlib.Core.Bool.{Bool, true, false, not, Bool·beq}
 use mathlib.Core.List.{List}
 use native.Mathlib.Omega.{arith}
@@ -10,7 +11,7 @@ use lib.ListN.{length, getD}
 use borrow.Author.Tests.{lt-ltb, le-ltb}
 use Rattle.base.specs.Lists.{bit}
 use Rattle.base.specs.Grid.{Axis, move, axisOf}
-use Rattle.base.proofs.Tests.{→true}
+use Rattle.base.proofs.Tests.{→true, below}
 use Rattle.rules.specs.Survey.{cellsOf, cornersOf, wetAt, Survey}
 use Rattle.rules.specs.Edges.{isEdge, odd}
 use Rattle.rules.specs.Outputs.{surveyRefusal, accepted, surveyOf}
@@ -18,7 +19,7 @@ use Rattle.records.specs.Keys.{keyOf, placesOf}
 use Rattle.records.proofs.Keys.{get-place, length-places}
 use Rattle.records.proofs.Search.{keyAt}
 use Rattle.octree.proofs.Accepted.{accepted→, lawful}
-use Rattle.edges.specs.Tables.{placeAt, lowestLevel, crossedSlot, Lowest, Far, Wets, UpperEnd}
+use Rattle.edges.specs.Tables.{placeAt, lowestLevel, highestLevel, crossedSlot, lowestAt, highestAt, farAt, Levelled, Wets, UpperEnd}
 use Rattle.edges.specs.Searching.{keyUnit, Corners}
 use Rattle.edges.proofs.Find.{key-move}
 use Rattle.edges.proofs.Levels.{Edged, lowest-edge}
@@ -49,20 +50,17 @@ odd-read t clearance wets w a k m l h u =
     ap (λ p. not (Bool·beq (wetAt (cornersOf t) clearance (placeAt (placesOf t) k)) (wetAt (cornersOf t) clearance p))) (u .place)
 
 -- the upper end of the edge of the lowest level at a slot, where there is one
-pub far-read : (tc tk lowest far : List ℕ) → Lowest tc tk lowest → Far tc tk far → (n k i : ℕ) → i ≡ 4872 * n + k → n < 3 → k < length tk / 10 →
-    getD lowest i 0 ≤ 10 → UpperEnd tk (axisOf n) k (getD lowest i 0) (getD far i 0)
-far-read tc tk lowest far low ends n k i e g h o =
-    let q = low .entry n k g (omega (arith, length-places tk)) in
-    let r : getD lowest i 0 ≡ getD lowest (4872 * n + k) 0 = ap (λ j. getD lowest j 0) e in
-    subst (λ j. UpperEnd tk (axisOf n) k (getD lowest j 0) (getD far j 0)) (sym e)
-    (subst (λ l. UpperEnd tk (axisOf n) k l (getD far (4872 * n + k) 0)) (sym q) (ends .entry n k g h (omega (arith, q, r))))
+pub far-read : (tc tk slots : List ℕ) → Levelled tc tk slots → (n k i : ℕ) → i ≡ 4872 * n + k → n < 3 → k < length tk / 10 →
+    lowestAt slots i ≤ 10 → UpperEnd tk (axisOf n) k (lowestAt slots i) (farAt slots i)
+far-read tc tk slots known n k i e g h o =
+    let q = known .low n k g h in
+    let r : lowestAt slots i ≡ lowestAt slots (4872 * n + k) = ap (lowestAt slots) e in
+    subst (λ j. UpperEnd tk (axisOf n) k (lowestAt slots j) (farAt slots j)) (sym e)
+    (subst (λ l. UpperEnd tk (axisOf n) k l (farAt slots (4872 * n + k))) (sym q) (known .far n k g h (omega (arith, q, r))))
 
 -- ---- crossed slots
 
 module _ (s : Survey) (i : ℕ) where
-  axis-at : Axis
-  axis-at = axisOf (i / 4872)
-
   pub slot-outside : length (s .places) ≤ i % 4872 → crossedSlot s i ≡ false
   unfolding crossedSlot
   slot-outside h = rw (le-ltb (i % 4872) (length (s .places)) h)
@@ -83,6 +81,13 @@ pub record-outside : (tc tk : List ℕ) (clearance : Float) (i : ℕ) → length
 unfolding surveyOf
 record-outside tc tk clearance i h = slot-outside (surveyOf tc tk clearance) i (omega (arith, length-places tk))
 
+pub crossed-inside : (tc tk : List ℕ) (clearance : Float) (i : ℕ) → T (crossedSlot (surveyOf tc tk clearance) i) → i % 4872 < length tk / 10
+crossed-inside tc tk clearance i t = go (below (i % 4872) (length tk / 10))
+  where
+    go : (i % 4872 < length tk / 10) ⊎ (length tk / 10 ≤ i % 4872) → i % 4872 < length tk / 10
+    go (inl h) = h
+    go (inr h) = absurd (subst T (record-outside tc tk clearance i h) t)
+
 -- ---- an accepted survey
 
 module _ (tc tk : List ℕ) (clearance : Float) (ok : accepted tc tk clearance ≡ true) where
@@ -102,34 +107,36 @@ module _ (tc tk : List ℕ) (clearance : Float) (ok : accepted tc tk clearance �
   unfolding surveyOf
   few-places = omega (arith, length-places tk, corners-few tc tk no-refusal)
 
-  -- the lowest level as the table has it
-  pub lowest-read : (lowest : List ℕ) → Lowest tc tk lowest → (n k i : ℕ) → i ≡ 4872 * n + k → n < 3 → k < length tk / 10 →
-      getD lowest i 0 ≡ lowestLevel (surveyOf tc tk clearance) (axisOf n) (placeAt (placesOf tk) k)
+  -- the lowest and the highest level as the table has them
+  pub lowest-read : (slots : List ℕ) → Levelled tc tk slots → (n k i : ℕ) → i ≡ 4872 * n + k → n < 3 → k < length tk / 10 →
+      lowestAt slots i ≡ lowestLevel (surveyOf tc tk clearance) (axisOf n) (placeAt (placesOf tk) k)
   unfolding lowestLevel surveyOf
-  lowest-read lowest t n k i e g h = ap (λ j. getD lowest j 0) e ∙ t .entry n k g (omega (arith, length-places tk))
+  lowest-read slots known n k i e g h = ap (lowestAt slots) e ∙ known .low n k g h
+
+  pub highest-read : (slots : List ℕ) → Levelled tc tk slots → (n k i : ℕ) → i ≡ 4872 * n + k → n < 3 → k < length tk / 10 →
+      highestAt slots i ≡ highestLevel (surveyOf tc tk clearance) (axisOf n) (placeAt (placesOf tk) k)
+  unfolding highestLevel surveyOf
+  highest-read slots known n k i e g h = ap (highestAt slots) e ∙ known .high n k g h
 
   -- ---- the crossed slots, as the code finds them
 
-  module _ (lowest : List ℕ) (low : Lowest tc tk lowest) (i : ℕ) (h : i < 14616) where
-    level-is : i % 4872 < length tk / 10 → getD lowest i 0 ≡ lowestLevel (surveyOf tc tk clearance) (axisOf (i / 4872)) (placeAt (placesOf tk) (i % 4872))
-    level-is g = lowest-read lowest low (i / 4872) (i % 4872) i (omega arith) (omega arith) g
+  module _ (slots : List ℕ) (known : Levelled tc tk slots) (i : ℕ) (h : i < 14616) where
+    level-is : i % 4872 < length tk / 10 → lowestAt slots i ≡ lowestLevel (surveyOf tc tk clearance) (axisOf (i / 4872)) (placeAt (placesOf tk) (i % 4872))
+    level-is g = lowest-read slots known (i / 4872) (i % 4872) i (omega arith) (omega arith) g
 
-    pub outside : length tk / 10 ≤ i % 4872 → crossedSlot (surveyOf tc tk clearance) i ≡ false
-    outside g = record-outside tc tk clearance i g
-
-    pub empty : i % 4872 < length tk / 10 → 10 < getD lowest i 0 → crossedSlot (surveyOf tc tk clearance) i ≡ false
+    pub empty : i % 4872 < length tk / 10 → 10 < lowestAt slots i → crossedSlot (surveyOf tc tk clearance) i ≡ false
     unfolding surveyOf
     empty g o = slot-empty s i (omega (arith, length-places tk)) (omega (arith, level-is g))
 
-    module _ (g : i % 4872 < length tk / 10) (o : getD lowest i 0 ≤ 10) where
-      pub low-edge : T (isEdge (cellsOf tc) (axisOf (i / 4872)) (placeAt (placesOf tk) (i % 4872)) (getD lowest i 0))
+    module _ (g : i % 4872 < length tk / 10) (o : lowestAt slots i ≤ 10) where
+      pub low-edge : T (isEdge (cellsOf tc) (axisOf (i / 4872)) (placeAt (placesOf tk) (i % 4872)) (lowestAt slots i))
       unfolding surveyOf
       low-edge =
           subst (λ (l : ℕ). T (isEdge (cellsOf tc) (axisOf (i / 4872)) (placeAt (placesOf tk) (i % 4872)) l)) (sym (level-is g))
           (lowest-edge s edges-law (axisOf (i / 4872)) (placeAt (placesOf tk) (i % 4872)) (omega (arith, level-is g)))
 
       pub crossed-odd : crossedSlot (surveyOf tc tk clearance) i ≡
-          odd (wetAt (cornersOf tk) clearance) (axisOf (i / 4872)) (placeAt (placesOf tk) (i % 4872)) (getD lowest i 0)
+          odd (wetAt (cornersOf tk) clearance) (axisOf (i / 4872)) (placeAt (placesOf tk) (i % 4872)) (lowestAt slots i)
       unfolding surveyOf
       crossed-odd =
           slot-odd s i (omega (arith, length-places tk)) (omega (arith, level-is g)) ∙

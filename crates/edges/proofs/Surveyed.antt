@@ -15,11 +15,13 @@ use Rattle.base.specs.Lists.{any}
 use Rattle.base.proofs.Lists.{in→any, in-get}
 use Rattle.base.proofs.Places.{same-refl}
 use Rattle.records.proofs.Keys.{length-places}
-use Rattle.rules.specs.Survey.{cellsOf}
+use Rattle.rules.specs.Survey.{cell, cellsOf}
 use Rattle.rules.specs.Edges.{isEdge}
 use Rattle.rules.specs.Outputs.{rising, surveyRefusal, surveyOf}
 use Rattle.records.specs.Keys.{keyOf, placesOf}
 use Rattle.octree.specs.Lawful.{Octree}
+use Rattle.cells.specs.Laid.{cellAt}
+use Rattle.octree.proofs.Cells.{→cell}
 use Rattle.octree.proofs.Tree.{octree-of}
 use Rattle.octree.proofs.Records.{cell-count}
 use Rattle.octree.proofs.Aligned.{corner-place, edge-level}
@@ -61,6 +63,11 @@ module _ (tc tk : List ℕ) (ok : surveyRefusal tc tk ≡ 0) where
 
   pub record-inside : (i : ℕ) → i < length tc / 4 → i < length (cellsOf tc)
   record-inside i h = omega (arith, cell-count tc (passes .entries-right))
+
+  pub cell-shallow : (i : ℕ) → i < length tc / 4 → cellAt tc i .level ≤ 10
+  cell-shallow i h =
+      tree .shallow (cellAt tc i .level) (cellAt tc i .low)
+      (→cell (cellsOf tc) (cellAt tc i) (in-get (cellsOf tc) i (cell origin 10 false) (record-inside i h)))
 
   -- the level of an edge, and its upper end
   pub edge-shallow : (a : Axis) (p : Place) (l : ℕ) → T (isEdge (cellsOf tc) a p l) → l ≤ 10

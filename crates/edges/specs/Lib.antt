@@ -1,4 +1,3 @@
 pub mod Tables
 pub mod Searching
-pub mod Enquiry
-pub mod Numbering
+pub mod Noting

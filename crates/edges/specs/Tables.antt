@@ -1,6 +1,6 @@
 -- The tables in which drawing and the enquiry look edges and points up, and what each of them holds, of a survey at a clearance.
 -- A slot stands for an axis and a corner record: 4,872 slots for each axis, so slot 4,872 n + k is for record k on the axis with number n.
-use Prim.Native.Nat.{ℕ, suc, _+_, _*_, _/_, _%_, _^_, _≤_, _<_, min, max}
+use Prim.Native.Nat.{ℕ, _+_, _*_, _/_, _%_, _^_, _≤_, _<_, min, max}
 use mathlib.Core.Path.{_≡_}
 use mathlib.Core.Bool.{Bool, false, _&&_, cond}
 use mathlib.Core.List.{List, [], _∷_}
@@ -11,10 +11,10 @@ use Rattle.base.specs.Lists.{keep, collect, count, bit}
 use Rattle.base.specs.Grid.{Place, origin, Axis, axes, axisNumber, axisOf, move, same}
 use Rattle.rules.specs.Survey.{Cell, cellsOf, cornersOf, wetAt, Survey}
 use Rattle.rules.specs.Edges.{CellEdge, edge, isEdge, odd, carrier}
-use Rattle.rules.specs.Steps.{above, other, twinOf}
+use Rattle.rules.specs.Steps.{twinOf}
 use Rattle.rules.specs.Closing.{cellEdgesOn}
+use Rattle.rules.specs.Outputs.{surveyOf}
 use Rattle.records.specs.Keys.{placesOf}
-use Rattle.cells.specs.Laid.{cellAt}
 
 -- ---- levels
 
@@ -24,6 +24,13 @@ cellEdges c = collect (cellEdgesOn c) axes
 
 unfoldable pub edgesOf : List Cell → List CellEdge
 edgesOf cells = collect cellEdges cells
+
+-- the corners of a cell, of eight, at which its twelve edges start and end
+abbrev pub starts : List ℕ
+starts = 0 ∷ 2 ∷ 4 ∷ 6 ∷ 0 ∷ 4 ∷ 1 ∷ 5 ∷ 0 ∷ 1 ∷ 2 ∷ 3 ∷ []
+
+abbrev pub ends : List ℕ
+ends = 1 ∷ 3 ∷ 5 ∷ 7 ∷ 2 ∷ 6 ∷ 3 ∷ 7 ∷ 4 ∷ 5 ∷ 6 ∷ 7 ∷ []
 
 -- the edge starts at p on axis a
 abbrev pub startsAt : Axis → Place → CellEdge → Bool
@@ -78,55 +85,57 @@ slotEdge s i =
 
 -- ---- the tables
 
--- the levels of the cells, record by record
-pub record CellLevels (tc levels : List ℕ) : Type 0 where
-  pub room : length tc / 4 ≤ length levels
-  pub level : (n : ℕ) → n < length tc / 4 → getD levels n 0 ≡ cellAt tc n .level
-
--- a number for each slot: f of its axis and place
-pub record Tabled (places : List Place) (f : Axis → Place → ℕ) (table : List ℕ) : Type 0 where
-  pub size : length table ≡ 14616
-  pub entry : (n k : ℕ) → n < 3 → k < length places → getD table (4872 * n + k) 0 ≡ f (axisOf n) (placeAt places k)
-
 -- corner record m is at the upper end of the edge of level l that starts at corner record k on axis a
 pub record UpperEnd (tk : List ℕ) (a : Axis) (k l m : ℕ) : Type 0 where
   pub inside : m < length tk / 10
   pub place : placeAt (placesOf tk) m ≡ move a (2 ^ l) (placeAt (placesOf tk) k)
 
--- for each slot at which edges on a list start, the corner record at the upper end of the one of the lowest level
-pub record FarEnds (tk : List ℕ) (es : List CellEdge) (table : List ℕ) : Type 0 where
-  pub size : length table ≡ 14616
-  pub entry : (n k : ℕ) → n < 3 → k < length tk / 10 → lowestIn es (axisOf n) (placeAt (placesOf tk) k) < 11 →
-      UpperEnd tk (axisOf n) k (lowestIn es (axisOf n) (placeAt (placesOf tk) k)) (getD table (4872 * n + k) 0)
+-- What is known of slot i stands in three elements of one table, from 3 i on: the lowest level plus 16 times the highest; the corner record at the upper end
+-- of the edge of the lowest level; how many crossed slots come before it, where it is crossed.
+unfoldable pub lowestAt : List ℕ → ℕ → ℕ
+lowestAt slots i = getD slots (3 * i) 0 % 16
 
--- the levels and the upper ends of the edges on a list
-pub record Levels (tk : List ℕ) (es : List CellEdge) (lowest highest far : List ℕ) : Type 0 where
-  pub low : Tabled (placesOf tk) (lowestIn es) lowest
-  pub high : Tabled (placesOf tk) (highestIn es) highest
-  pub ends : FarEnds tk es far
+unfoldable pub highestAt : List ℕ → ℕ → ℕ
+highestAt slots i = getD slots (3 * i) 0 / 16 % 16
+
+unfoldable pub farAt : List ℕ → ℕ → ℕ
+farAt slots i = getD slots (3 * i + 1) 0
+
+unfoldable pub numberAt : List ℕ → ℕ → ℕ
+numberAt slots i = getD slots (3 * i + 2) 0
+
+-- g gives for each slot of a corner record f of its axis and place
+abbrev pub Tabled : List ℕ → (Axis → Place → ℕ) → (ℕ → ℕ) → Type 0
+Tabled tk f g = (n k : ℕ) → n < 3 → k < length tk / 10 → g (4872 * n + k) ≡ f (axisOf n) (placeAt (placesOf tk) k)
+
+-- for each slot at which edges on a list start, g gives the corner record at the upper end of the one of the lowest level
+abbrev pub FarEnds : List ℕ → List CellEdge → (ℕ → ℕ) → Type 0
+FarEnds tk es g = (n k : ℕ) → n < 3 → k < length tk / 10 → lowestIn es (axisOf n) (placeAt (placesOf tk) k) < 11 →
+    UpperEnd tk (axisOf n) k (lowestIn es (axisOf n) (placeAt (placesOf tk) k)) (g (4872 * n + k))
+
+-- what the table holds of the edges on a list: their levels at each slot, and the upper end of the one of the lowest level
+pub record Levels (tk : List ℕ) (es : List CellEdge) (slots : List ℕ) : Type 0 where
+  pub size : length slots ≡ 43848
+  pub low : Tabled tk (lowestIn es) (lowestAt slots)
+  pub high : Tabled tk (highestIn es) (highestAt slots)
+  pub far : FarEnds tk es (farAt slots)
 
 -- of the edges of all cells
-abbrev pub Lowest : List ℕ → List ℕ → List ℕ → Type 0
-Lowest tc tk table = Tabled (placesOf tk) (lowestIn (edgesOf (cellsOf tc))) table
+abbrev pub Levelled : List ℕ → List ℕ → List ℕ → Type 0
+Levelled tc tk slots = Levels tk (edgesOf (cellsOf tc)) slots
 
-abbrev pub Highest : List ℕ → List ℕ → List ℕ → Type 0
-Highest tc tk table = Tabled (placesOf tk) (highestIn (edgesOf (cellsOf tc))) table
-
-abbrev pub Far : List ℕ → List ℕ → List ℕ → Type 0
-Far tc tk table = FarEnds tk (edgesOf (cellsOf tc)) table
+-- the same, and for each crossed slot how many crossed slots come before it
+pub record Numbered (tc tk : List ℕ) (clearance : Float) (slots : List ℕ) : Type 0 where
+  pub levelled : Levelled tc tk slots
+  pub number : (i : ℕ) → i < 14616 → T (crossedSlot (surveyOf tc tk clearance) i) → numberAt slots i ≡ length (slotsBelow (surveyOf tc tk clearance) i)
 
 -- 1 for each corner record that is wet at the clearance, else 0
 pub record Wets (tk : List ℕ) (clearance : Float) (table : List ℕ) : Type 0 where
   pub size : length table ≡ 4872
   pub entry : (k : ℕ) → k < length tk / 10 → getD table k 0 ≡ bit (wetAt (cornersOf tk) clearance (placeAt (placesOf tk) k))
 
--- for each slot, how many crossed slots come before it
-pub record Numbers (s : Survey) (table : List ℕ) : Type 0 where
-  pub size : length table ≡ 14616
-  pub entry : (i : ℕ) → i < 14616 → getD table i 0 ≡ length (slotsBelow s i)
-
 -- for each point, its slot
-pub record Slots (s : Survey) (table : List ℕ) : Type 0 where
+pub record Carriers (s : Survey) (table : List ℕ) : Type 0 where
   pub size : length table ≡ 14616
   pub entry : (v : ℕ) → v < length (slotsBelow s 14616) → getD table v 0 ≡ getD (slotsBelow s 14616) v 0
 
@@ -153,11 +162,3 @@ pub record CarrierSlot (s : Survey) (a : Axis) (p : Place) (l i : ℕ) : Type 0 
 pub record Sought (tc tk : List ℕ) (a : Axis) (p : Place) (l r : ℕ) : Type 0 where
   pub found : r < length tk / 10 → T (isEdge (cellsOf tc) a p l) × (placeAt (placesOf tk) r ≡ p)
   pub none : length tk / 10 ≤ r → isEdge (cellsOf tc) a p l ≡ false
-
--- What climbing from the edge of level l at corner record k gives: the corner record at which the edge above starts, or the number of records where no cell has
--- it; the one at its upper end; and the one at which its other half starts.
-pub record Risen (tc tk : List ℕ) (a : Axis) (k l start end half : ℕ) : Type 0 where
-  pub sought : Sought tc tk a (above a (placeAt (placesOf tk) k) l) (suc l) start
-  pub upper : start < length tk / 10 → UpperEnd tk a start (suc l) end
-  pub half-inside : start < length tk / 10 → half < length tk / 10
-  pub half-place : start < length tk / 10 → placeAt (placesOf tk) half ≡ other a (placeAt (placesOf tk) k) l

@@ -1,4 +1,4 @@
-// Edges by the corner record at which they start: their upper end, their odd half, whether they are upper halves, and the place of a point.
+// Edges by the corner record at which they start: their upper end, their odd half, the slot that carries their point, and the place of a point.
 ghost use mathlib.Core.Path.{_≡_};
 ghost use mathlib.Core.Bool.{true, not, cond};
 ghost use Prim.Native.Nat.{_/_, _≤_, _<_};
@@ -9,32 +9,30 @@ ghost use Rattle.rules.specs.Survey.{cellsOf, cornersOf};
 ghost use Rattle.rules.specs.Edges.{edge, isEdge, spotOn};
 ghost use Rattle.rules.specs.Outputs.{surveyRefusal, accepted, surveyOf};
 ghost use Rattle.places.specs.Places.{asSpot};
-ghost use Rattle.rules.specs.Steps.{isUpper};
 ghost use Rattle.records.specs.Keys.{placesOf};
-ghost use Rattle.edges.specs.Tables.{placeAt, Wets, Lowest, Far, UpperEnd, OddEdge, CarrierSlot};
+ghost use Rattle.edges.specs.Tables.{placeAt, Wets, Levelled, UpperEnd, OddEdge, CarrierSlot};
 ghost use Rattle.edges.specs.Searching.{Corners};
 use super::keys;
+use super::table;
 use places::Point;
 
 // The record at the upper end of the edge of this level that starts at record k on an axis: from the table for the lowest level there, else by a search.
 pub fn upper_end(
     cells: &[u8],
     corners: &[u8],
-    lowest: &[u8],
-    far: &[u16],
+    slots: &[u16],
     axis: u32,
     k: usize,
     level: u8,
 ) -> usize
     requires { ⌜ surveyRefusal (now cells) (now corners) ≡ 0 ⌝ }
-    requires { ⌜ Lowest (now cells) (now corners) (now lowest) ⌝ }
-    requires { ⌜ Far (now cells) (now corners) (now far) ⌝ }
+    requires { ⌜ Levelled (now cells) (now corners) (now slots) ⌝ }
     requires { ⌜ (axis < 3) × (k < length (now corners) / 10) × T (isEdge (cellsOf (now cells)) (axisOf axis) (placeAt (placesOf (now corners)) k) level) ⌝ }
     ensures { λ r. ⌜ UpperEnd (now (corners .entry)) (axisOf axis) k level r ⌝ }
 {
     let slot = 4872 * (axis as usize) + k;
-    if lowest[slot] == level {
-        return far[slot] as usize;
+    if table::lowest(slots, slot) == level {
+        return table::far(slots, slot) as usize;
     }
     reader::find(
         corners,
@@ -59,38 +57,26 @@ pub fn carrier_slot(
     corners: &[u8],
     clearance: f32,
     wets: &[u8],
-    lowest: &[u8],
-    far: &[u16],
+    slots: &[u16],
     axis: u32,
     start: usize,
     top: u8,
 ) -> usize
     requires { ⌜ accepted (now cells) (now corners) clearance ≡ true ⌝ }
     requires { ⌜ Wets (now corners) clearance (now wets) ⌝ }
-    requires { ⌜ Lowest (now cells) (now corners) (now lowest) ⌝ }
-    requires { ⌜ Far (now cells) (now corners) (now far) ⌝ }
+    requires { ⌜ Levelled (now cells) (now corners) (now slots) ⌝ }
     requires { ⌜ (axis < 3) × OddEdge (now cells) (now corners) clearance (axisOf axis) start top ⌝ }
     ensures { λ r. ⌜ CarrierSlot (surveyOf (now (cells .entry)) (now (corners .entry)) clearance) (axisOf axis)
         (placeAt (placesOf (now (corners .entry))) start) top r ⌝ }
 {
     let mut k = start;
     let mut level = top;
-    while lowest[4872 * (axis as usize) + k] < level {
+    while table::lowest(slots, 4872 * (axis as usize) + k) < level {
         level -= 1;
-        let middle = upper_end(cells, corners, lowest, far, axis, k, level);
+        let middle = upper_end(cells, corners, slots, axis, k, level);
         k = odd_half(wets, k, middle);
     }
     4872 * (axis as usize) + k
-}
-
-// The edge is the upper half of the edge above it.
-pub fn is_upper(corners: &[u8], axis: u32, k: usize, level: u8) -> bool
-    requires { ⌜ (k < length (now corners) / 10) × (level ≤ 10) ⌝ }
-    ensures { λ r. ⌜ r ≡ isUpper (axisOf axis) (placeAt (placesOf (now (corners .entry))) k) level ⌝ }
-{
-    let size = cells::size_of(level);
-    let v = places::coordinate(records::corner_at(corners, k), axis) as u64;
-    v / size % 2 == 1
 }
 
 // The place of the point on an odd edge between two corner records: reckoned from its dry end.

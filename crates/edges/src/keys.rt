@@ -6,7 +6,6 @@ ghost use lib.Dec.{ltb};
 ghost use Rattle.base.specs.Lists.{bit};
 ghost use Rattle.base.specs.Grid.{axisOf};
 ghost use Rattle.edges.specs.Searching.{keyUnit};
-ghost use Rattle.rules.specs.Outputs.{levelOf};
 
 // The lower of two levels.
 pub fn lower(a: u8, b: u8) -> u8
@@ -68,28 +67,4 @@ pub fn mark(wet: bool) -> u8
         return 1;
     }
     0
-}
-
-// The key of the place that is the length of an edge of this level back on an axis.
-pub fn step_back(key: u64, axis: u32, level: u8) -> u64
-    requires { ⌜ (2 ^ level * keyUnit (axisOf axis) ≤ key) × (level ≤ 10) ⌝ }
-    ensures { λ r. ⌜ r ≡ key - 2 ^ level * keyUnit (axisOf axis) ⌝ }
-{
-    key - cells::size_of(level) * unit(axis)
-}
-
-// The level of an edge of this length, or 11, which no edge has.
-pub fn level_of(size: u32) -> u8
-    ensures { λ r. ⌜ r ≡ levelOf size ⌝ }
-{
-    let mut level: u8 = 0;
-    let mut power: u32 = 1;
-    while level < 11 {
-        if power == size {
-            return level;
-        }
-        power *= 2;
-        level += 1;
-    }
-    11
 }

@@ -1,52 +1,42 @@
-// Edges and crossing points of a survey: the tables of levels and numbers, the point of an odd edge, twins, and the edge enquiry.
-// Uses records, reader, cells, checks, octants and places. specs/ says what each table holds.
+// Edges and crossing points of a survey: the table of slots (levels and numbers), the point of an odd edge, and the writer of all points.
+// Uses digits, records, reader, cells and places, and the tables that cells and octants describe. specs/ says what each table holds.
 ghost use mathlib.Core.Path.{_≡_};
-ghost use mathlib.Core.Bool.{true, cond};
+ghost use mathlib.Core.Bool.{true};
 ghost use mathlib.Core.List.{[]};
 ghost use Prim.Native.Nat.{_+_, _*_, _/_, _%_, _≤_, _<_};
 ghost use lib.Dec.{T};
 ghost use lib.ListN.{length, set};
 ghost use Rattle.base.specs.Lists.{bit};
 ghost use Rattle.base.specs.Grid.{Place, axisOf};
-ghost use Rattle.rules.specs.Survey.{cellsOf, cornersOf};
+ghost use Rattle.rules.specs.Survey.{cornersOf};
 ghost use Rattle.rules.specs.Edges.{edge, pointEdges, pointOf, spotOn};
-ghost use Rattle.places.specs.Places.{asSpot};
 ghost use Rattle.rules.specs.Outputs.{rising, surveyRefusal, accepted, surveyOf, pointFloats, written};
 ghost use Rattle.records.specs.Keys.{keyOf, placesOf, Short};
-ghost use Rattle.edges.specs.Tables.{edgesOf, placeAt, crossedSlot, slotsBelow, slotEdge, CellLevels, Levels, Lowest};
-ghost use Rattle.edges.specs.Tables.{Highest, Far, Wets, Numbers, Slots, Twins, OddEdge, Sought};
+ghost use Rattle.places.specs.Places.{asSpot};
+ghost use Rattle.cells.specs.Laid.{Laid};
 ghost use Rattle.octants.specs.Octants.{Octants};
-ghost use Rattle.edges.specs.Numbering.{Numbered};
-ghost use Rattle.rules.specs.Outputs.{enquiry, asked, answered, StaysOn};
+ghost use Rattle.edges.specs.Tables.{placeAt, crossedSlot, slotEdge, Levels, Levelled, Numbered, Wets, Carriers, OddEdge, Sought};
 use places::Point;
-use rules::Answer;
 
-mod answers;
-mod ends;
-mod keys;
+pub mod ends;
+pub mod keys;
 mod noting;
-mod pairs;
+pub mod table;
+pub mod twelve;
 
-// The tables of levels and upper ends, filled: of the edges of all cells, record by record.
-pub fn fill_levels(
-    cells: &[u8],
-    corners: &[u8],
-    octants: &[u16],
-    levels: &[u8],
-    lowest: &mut [u8],
-    highest: &mut [u8],
-    far: &mut [u16],
-)
+// The levels and upper ends of the table of slots, filled: of the edges of all cells, record by record.
+pub fn fill_levels(cells: &[u8], corners: &[u8], octants: &[u16], laid: &[u64], slots: &mut [u16])
     requires { ⌜ surveyRefusal (now cells) (now corners) ≡ 0 ⌝ }
     requires { ⌜ Octants (now cells) (now corners) (now octants) ⌝ }
-    requires { ⌜ CellLevels (now cells) (now levels) ⌝ }
-    requires { ⌜ Levels (now corners) [] (now lowest) (now highest) (now far) ⌝ }
-    ensures { λ _. ⌜ Levels (now (corners .entry)) (edgesOf (cellsOf (now (cells .entry)))) (now (lowest .exit)) (now (highest .exit)) (now (far .exit)) ⌝ }
+    requires { ⌜ Laid (now cells) (now laid) × (length (now cells) / 4 ≤ length (now laid)) ⌝ }
+    requires { ⌜ Levels (now corners) [] (now slots) ⌝ }
+    ensures { λ _. ⌜ Levelled (now (cells .entry)) (now (corners .entry)) (now (slots .exit)) ⌝ }
 {
     let mut n = cells.len() / 4;
     while n > 0 {
         n -= 1;
-        noting::note_cell(cells, corners, octants, lowest, highest, far, n, levels[n]);
+        let level = cells::level_in(laid, n);
+        noting::note_cell(cells, corners, octants, slots, n, level);
     }
 }
 
@@ -65,19 +55,17 @@ pub fn fill_wets(corners: &[u8], clearance: f32, wets: &mut [u8])
 }
 
 // The edge of the lowest level at a slot is crossed.
-fn is_crossed(
+pub fn is_crossed(
     cells: &[u8],
     corners: &[u8],
     clearance: f32,
     wets: &[u8],
-    lowest: &[u8],
-    far: &[u16],
+    slots: &[u16],
     slot: usize,
 ) -> bool
     requires { ⌜ accepted (now cells) (now corners) clearance ≡ true ⌝ }
     requires { ⌜ Wets (now corners) clearance (now wets) ⌝ }
-    requires { ⌜ Lowest (now cells) (now corners) (now lowest) ⌝ }
-    requires { ⌜ Far (now cells) (now corners) (now far) ⌝ }
+    requires { ⌜ Levelled (now cells) (now corners) (now slots) ⌝ }
     requires { ⌜ slot < 14616 ⌝ }
     ensures { λ r. ⌜ r ≡ crossedSlot (surveyOf (now (cells .entry)) (now (corners .entry)) clearance) slot ⌝ }
 {
@@ -85,111 +73,53 @@ fn is_crossed(
     if k >= corners.len() / 10 {
         return false;
     }
-    if lowest[slot] > 10 {
+    if table::lowest(slots, slot) > 10 {
         return false;
     }
-    wets[k] != wets[far[slot] as usize]
+    let end = table::far(slots, slot) as usize;
+    wets[k] != wets[end]
 }
 
-// Enters a crossed slot as point n; the number of points then.
-fn enter(slots: &mut [u16], n: usize, slot: usize, crossed: bool) -> usize
-    requires { ⌜ (n < length (now slots)) × (length (now slots) ≡ 14616) × (slot < 14616) ⌝ }
-    ensures { λ r. ⌜ (r ≡ n + bit crossed) × (now (slots .exit) ≡ cond crossed (set (now (slots .entry)) n slot) (now (slots .entry))) ⌝ }
+// Enters a slot as the carrier of point n; the number of points then. A slot that is not crossed is entered too, and the next one takes its place: a processor
+// can't foretell a branch on it.
+fn enter(carriers: &mut [u16], n: usize, slot: usize, crossed: bool) -> usize
+    requires { ⌜ (n < length (now carriers)) × (length (now carriers) ≡ 14616) × (slot < 14616) ⌝ }
+    ensures { λ r. ⌜ (r ≡ n + bit crossed) × (now (carriers .exit) ≡ set (now (carriers .entry)) n slot) ⌝ }
 {
-    if crossed {
-        slots[n] = slot as u16;
-        return n + 1;
-    }
-    n
+    carriers[n] = slot as u16;
+    n + (crossed as usize)
 }
 
-// Numbers the slots of an axis from `slot` on, for which there are no corner records: none of them is crossed. Where the slots of the next axis begin.
-fn number_rest(
-    cells: &[u8],
-    corners: &[u8],
-    clearance: f32,
-    numbers: &mut [u16],
-    slots: &[u16],
-    n: usize,
-    slot: usize,
-) -> usize
-    requires { ⌜ Numbered (surveyOf (now cells) (now corners) clearance) (now numbers) (now slots) n slot ⌝ }
-    requires { ⌜ (slot < 14616) × (length (now corners) / 10 ≤ slot % 4872) ⌝ }
-    ensures { λ r. ⌜ slot < r ⌝ }
-    ensures { λ r. ⌜ Numbered (surveyOf (now (cells .entry)) (now (corners .entry)) clearance) (now (numbers .exit)) (now (slots .entry)) n r ⌝ }
-{
-    let end = slot / 4872 * 4872 + 4872;
-    let mut at = slot;
-    while at < end {
-        numbers[at] = n as u16;
-        at += 1;
-    }
-    end
-}
-
-// Numbers the points in one pass over the slots: for each slot the crossed ones before it, for each point its slot. How many points there are.
+// Numbers the points in one pass over the slots: for each slot of a corner record the crossed ones before it, for each point the slot that carries it. How many
+// points there are.
 pub fn number_slots(
     cells: &[u8],
     corners: &[u8],
     clearance: f32,
     wets: &[u8],
-    lowest: &[u8],
-    far: &[u16],
-    numbers: &mut [u16],
     slots: &mut [u16],
+    carriers: &mut [u16],
 ) -> usize
     requires { ⌜ accepted (now cells) (now corners) clearance ≡ true ⌝ }
     requires { ⌜ Wets (now corners) clearance (now wets) ⌝ }
-    requires { ⌜ Lowest (now cells) (now corners) (now lowest) ⌝ }
-    requires { ⌜ Far (now cells) (now corners) (now far) ⌝ }
-    requires { ⌜ (length (now numbers) ≡ 14616) × (length (now slots) ≡ 14616) ⌝ }
+    requires { ⌜ Levelled (now cells) (now corners) (now slots) ⌝ }
+    requires { ⌜ length (now carriers) ≡ 14616 ⌝ }
     ensures { λ r. ⌜ r ≡ length (pointEdges (surveyOf (now (cells .entry)) (now (corners .entry)) clearance)) ⌝ }
-    ensures { λ _. ⌜ Numbers (surveyOf (now (cells .entry)) (now (corners .entry)) clearance) (now (numbers .exit)) ⌝ }
-    ensures { λ _. ⌜ Slots (surveyOf (now (cells .entry)) (now (corners .entry)) clearance) (now (slots .exit)) ⌝ }
+    ensures { λ _. ⌜ Numbered (now (cells .entry)) (now (corners .entry)) clearance (now (slots .exit)) ⌝ }
+    ensures { λ _. ⌜ Carriers (surveyOf (now (cells .entry)) (now (corners .entry)) clearance) (now (carriers .exit)) ⌝ }
 {
     let count = corners.len() / 10;
     let mut n: usize = 0;
     let mut slot: usize = 0;
     while slot < 14616 {
         if slot % 4872 >= count {
-            slot = number_rest(cells, corners, clearance, numbers, slots, n, slot);
+            slot = slot / 4872 * 4872 + 4872;
             continue;
         }
-        numbers[slot] = n as u16;
-        n = enter(
-            slots,
-            n,
-            slot,
-            is_crossed(cells, corners, clearance, wets, lowest, far, slot),
-        );
+        let crossed = is_crossed(cells, corners, clearance, wets, slots, slot);
+        slots[3 * slot + 2] = n as u16;
+        n = enter(carriers, n, slot, crossed);
         slot += 1;
-    }
-    n
-}
-
-// How many crossed slots come before a slot.
-fn count_crossed(
-    cells: &[u8],
-    corners: &[u8],
-    clearance: f32,
-    wets: &[u8],
-    lowest: &[u8],
-    far: &[u16],
-    slot: usize,
-) -> usize
-    requires { ⌜ accepted (now cells) (now corners) clearance ≡ true ⌝ }
-    requires { ⌜ Wets (now corners) clearance (now wets) ⌝ }
-    requires { ⌜ Lowest (now cells) (now corners) (now lowest) ⌝ }
-    requires { ⌜ Far (now cells) (now corners) (now far) ⌝ }
-    requires { ⌜ slot < 14616 ⌝ }
-    ensures { λ r. ⌜ r ≡ length (slotsBelow (surveyOf (now (cells .entry)) (now (corners .entry)) clearance) slot) ⌝ }
-{
-    let mut n: usize = 0;
-    let mut i: usize = 0;
-    while i < slot {
-        let crossed = is_crossed(cells, corners, clearance, wets, lowest, far, i);
-        n += keys::mark(crossed) as usize;
-        i += 1;
     }
     n
 }
@@ -200,50 +130,34 @@ pub fn point_of(
     corners: &[u8],
     clearance: f32,
     wets: &[u8],
-    lowest: &[u8],
-    far: &[u16],
-    numbers: &[u16],
+    slots: &[u16],
     axis: u32,
     start: usize,
     top: u8,
 ) -> u16
     requires { ⌜ accepted (now cells) (now corners) clearance ≡ true ⌝ }
     requires { ⌜ Wets (now corners) clearance (now wets) ⌝ }
-    requires { ⌜ Lowest (now cells) (now corners) (now lowest) ⌝ }
-    requires { ⌜ Far (now cells) (now corners) (now far) ⌝ }
-    requires { ⌜ Numbers (surveyOf (now cells) (now corners) clearance) (now numbers) ⌝ }
+    requires { ⌜ Numbered (now cells) (now corners) clearance (now slots) ⌝ }
     requires { ⌜ (axis < 3) × OddEdge (now cells) (now corners) clearance (axisOf axis) start top ⌝ }
     ensures { λ r. ⌜ r ≡ pointOf (surveyOf (now (cells .entry)) (now (corners .entry)) clearance)
         (edge (axisOf axis) (placeAt (placesOf (now (corners .entry))) start) top) ⌝ }
 {
-    let slot = ends::carrier_slot(
-        cells,
-        corners,
-        clearance,
-        wets,
-        lowest,
-        far,
-        axis,
-        start,
-        top,
-    );
-    numbers[slot]
+    let slot = ends::carrier_slot(cells, corners, clearance, wets, slots, axis, start, top);
+    table::number(slots, slot)
 }
 
 // The corner record at which the edge of this level from the place with this key starts; the number of records where no cell has the edge.
-fn edge_record(
+pub fn edge_record(
     cells: &[u8],
     corners: &[u8],
     clearance: f32,
-    lowest: &[u8],
-    highest: &[u8],
+    slots: &[u16],
     axis: u32,
     key: u64,
     level: u8,
 ) -> usize
     requires { ⌜ accepted (now cells) (now corners) clearance ≡ true ⌝ }
-    requires { ⌜ Lowest (now cells) (now corners) (now lowest) ⌝ }
-    requires { ⌜ Highest (now cells) (now corners) (now highest) ⌝ }
+    requires { ⌜ Levelled (now cells) (now corners) (now slots) ⌝ }
     requires { ⌜ axis < 3 ⌝ }
     ensures { λ r. ⌜ ((p : Place) → Short p → key ≡ keyOf p → Sought (now (cells .entry)) (now (corners .entry)) (axisOf axis) p level r) ⌝ }
 {
@@ -252,81 +166,33 @@ fn edge_record(
     if k >= count {
         return count;
     }
-    let at = 4872 * (axis as usize) + k;
-    if level < lowest[at] {
+    let slot = 4872 * (axis as usize) + k;
+    if level < table::lowest(slots, slot) {
         return count;
     }
-    if highest[at] < level {
+    if table::highest(slots, slot) < level {
         return count;
     }
     k
 }
 
-// The table of twins, filled for the n points.
-pub fn fill_twins(
-    cells: &[u8],
-    corners: &[u8],
-    clearance: f32,
-    wets: &[u8],
-    lowest: &[u8],
-    highest: &[u8],
-    far: &[u16],
-    numbers: &[u16],
-    slots: &[u16],
-    n: usize,
-    twins: &mut [u16],
-)
-    requires { ⌜ accepted (now cells) (now corners) clearance ≡ true ⌝ }
-    requires { ⌜ Wets (now corners) clearance (now wets) ⌝ }
-    requires { ⌜ Lowest (now cells) (now corners) (now lowest) ⌝ }
-    requires { ⌜ Highest (now cells) (now corners) (now highest) ⌝ }
-    requires { ⌜ Far (now cells) (now corners) (now far) ⌝ }
-    requires { ⌜ Numbers (surveyOf (now cells) (now corners) clearance) (now numbers) ⌝ }
-    requires { ⌜ Slots (surveyOf (now cells) (now corners) clearance) (now slots) ⌝ }
-    requires { ⌜ (n ≡ length (pointEdges (surveyOf (now cells) (now corners) clearance))) × (length (now twins) ≡ 14616) ⌝ }
-    ensures { λ _. ⌜ Twins (surveyOf (now (cells .entry)) (now (corners .entry)) clearance) (now (twins .exit)) ⌝ }
-{
-    let mut v: usize = 0;
-    while v < n {
-        twins[v] = pairs::twin_of(
-            cells,
-            corners,
-            clearance,
-            wets,
-            lowest,
-            highest,
-            far,
-            numbers,
-            slots,
-            v,
-        );
-        v += 1;
-    }
-}
-
 // The place of the point of a crossed slot.
-fn slot_point(
-    cells: &[u8],
-    corners: &[u8],
-    clearance: f32,
-    lowest: &[u8],
-    far: &[u16],
-    slot: usize,
-) -> Point
+pub fn slot_point(cells: &[u8], corners: &[u8], clearance: f32, slots: &[u16], slot: usize) -> Point
     requires { ⌜ accepted (now cells) (now corners) clearance ≡ true ⌝ }
-    requires { ⌜ Lowest (now cells) (now corners) (now lowest) ⌝ }
-    requires { ⌜ Far (now cells) (now corners) (now far) ⌝ }
+    requires { ⌜ Levelled (now cells) (now corners) (now slots) ⌝ }
     requires { ⌜ (slot < 14616) × T (crossedSlot (surveyOf (now cells) (now corners) clearance) slot) ⌝ }
     ensures { λ r. ⌜ asSpot r ≡ spotOn (cornersOf (now (corners .entry))) clearance
         (slotEdge (surveyOf (now (cells .entry)) (now (corners .entry)) clearance) slot) ⌝ }
 {
+    let end = table::far(slots, slot) as usize;
+    let level = table::lowest(slots, slot);
     ends::edge_point(
         corners,
         clearance,
         (slot / 4872) as u32,
         slot % 4872,
-        far[slot] as usize,
-        lowest[slot],
+        end,
+        level,
     )
 }
 
@@ -335,16 +201,14 @@ pub fn write_points(
     cells: &[u8],
     corners: &[u8],
     clearance: f32,
-    lowest: &[u8],
-    far: &[u16],
     slots: &[u16],
+    carriers: &[u16],
     n: usize,
     points: &mut [f32],
 )
     requires { ⌜ accepted (now cells) (now corners) clearance ≡ true ⌝ }
-    requires { ⌜ Lowest (now cells) (now corners) (now lowest) ⌝ }
-    requires { ⌜ Far (now cells) (now corners) (now far) ⌝ }
-    requires { ⌜ Slots (surveyOf (now cells) (now corners) clearance) (now slots) ⌝ }
+    requires { ⌜ Levelled (now cells) (now corners) (now slots) ⌝ }
+    requires { ⌜ Carriers (surveyOf (now cells) (now corners) clearance) (now carriers) ⌝ }
     requires { ⌜ (n ≡ length (pointEdges (surveyOf (now cells) (now corners) clearance))) × (3 * n ≤ length (now points)) ⌝ }
     ensures { λ _. ⌜ now (points .exit) ≡ written (pointFloats (now (cells .entry)) (now (corners .entry)) clearance) (now (points .entry)) ⌝ }
 {
@@ -353,63 +217,8 @@ pub fn write_points(
         places::put_point(
             points,
             v,
-            slot_point(cells, corners, clearance, lowest, far, slots[v] as usize),
+            slot_point(cells, corners, clearance, slots, carriers[v] as usize),
         );
         v += 1;
     }
-}
-
-// The edge enquiry: document 01, "Edges, points and places". By axis (0 to 2), lower end and length.
-pub fn enquire(
-    cells: &[u8],
-    corners: &[u8],
-    clearance: f32,
-    axis: u32,
-    x: u32,
-    y: u32,
-    z: u32,
-    size: u32,
-) -> Answer
-    ensures exact { λ r. ⌜ answered r ≡ enquiry (now (cells .entry)) (now (corners .entry)) clearance axis (record { x = x; y = y; z = z }) size ⌝ }
-    ensures on_edge { λ r. ⌜ StaysOn (surveyOf (now (cells .entry)) (now (corners .entry)) clearance) (asked axis (record { x = x; y = y; z = z }) size)
-        (answered r) ⌝ }
-{
-    let mut keys = [0u64; 2049];
-    let mut levels = [0u8; 2049];
-    let mut octants = [0u16; 16392];
-    let number = checks::refusal(
-        cells,
-        corners,
-        clearance,
-        &mut keys,
-        &mut levels,
-        &mut octants,
-    );
-    if number != 0 {
-        return Answer::Refused(number);
-    }
-    if axis > 2 {
-        return Answer::Refused(11);
-    }
-    if x > 1024 {
-        return Answer::Refused(11);
-    }
-    if y > 1024 {
-        return Answer::Refused(11);
-    }
-    if z > 1024 {
-        return Answer::Refused(11);
-    }
-    answers::enquire_accepted(
-        cells,
-        corners,
-        clearance,
-        &levels,
-        &octants,
-        axis,
-        x as u16,
-        y as u16,
-        z as u16,
-        keys::level_of(size),
-    )
 }

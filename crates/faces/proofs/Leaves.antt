@@ -1,192 +1,212 @@
--- A leaf's own sides: keys of its corners and of what lies across, and the steps on a side, own or in small faces.
-use Prim.Native.Nat.{ℕ, _+_, _-_, _*_, _/_, _^_, _≤_, _<_}
+-- The face steps of a leaf by the tables are those of the rules; and the tables have what `leaf_steps` asks of them.
+--     leaf-steps-are      leafTableSteps is leafSteps
+--     roomy, reaching     nothing is read outside the tables
+--     fitting             nothing is written outside the trace, if the rules' steps join points that it has room for
+use Prim.Native.Nat.{ℕ, _+_, _*_, _/_, _%_, _^_, _≤_, _<_}
 use mathlib.Core.Path.{_≡_, refl, sym, ap, _∙_, subst}
-use mathlib.Core.Bool.{Bool, true, false, not, _&&_, cond}
-use mathlib.Core.List.{List, [], _∷_, map, append-assoc, append-nil}
+use mathlib.Core.Logic.{_⊎_, inl, inr}
+use mathlib.Core.Bool.{Bool, true, false, not, _&&_, Bool·beq, cond}
+use mathlib.Core.List.{List}
 use native.Mathlib.Omega.{arith}
-use lib.Dec.{T, eqb, ltb}
+use lib.Dec.{T, eqb, eqb→eq, ltb}
 use lib.ListN.{length, getD}
+use lib.Pow.{pow-pos}
 use lib.Ieee.{Float}
-use Rattle.base.specs.Lists.{bit}
-use Rattle.base.specs.Grid.{Place, Axis, X, Y, axisOf, along, move, back, octants}
-use Rattle.rules.specs.Survey.{Cell, cell, cellsOf, cornersOf, cornerRecord, cornerAt, leafOf, wet, wetAt, Survey}
-use Rattle.rules.specs.Steps.{face, sideLow, faceSteps, leafSteps}
-use Rattle.rules.specs.Outputs.{rising, surveyOf}
-use Rattle.rules.specs.declared.Corner.{Corner}
-use Rattle.rules.specs.declared.Leaf.{Leaf}
-use Rattle.octree.specs.Lawful.{isCell}
-use Rattle.records.specs.Keys.{placesOf}
-use Rattle.records.proofs.Keys.{Bytes}
-use Rattle.edges.proofs.Places.{record-corner}
-use Rattle.octree.proofs.Aligned.{cell-in-box}
-use Rattle.cells.specs.Laid.{octantKey, cellAt, Laid}
-use Rattle.octants.specs.Octants.{octantOf, Octant}
-use Rattle.edges.specs.Searching.{keyUnit}
-use Rattle.trace.specs.Trace.{Trace, Recorded}
-use Rattle.faces.specs.Descent.{placeWith, Grown}
-use Rattle.faces.specs.Faces.{sideAt, sideOf, faceOf, sideNumber, sideBit, octantBit, LeafAt, Faced, SideFacet, FoundAcross, ownPattern, facePattern}
-use Rattle.faces.specs.Faces.{cornerMarks, facetSteps, sideSteps, smallSteps}
-use Rattle.faces.specs.declared.Facet.{Facet}
-use Rattle.faces.proofs.Keys.{octant-unit, place-of-key}
-use Rattle.faces.proofs.Firsts.{firsts}
-use Rattle.faces.proofs.Descent.{tree, cell-is}
-use Rattle.faces.proofs.Across.{whole-steps, eight}
-use Rattle.faces.proofs.Own.{lower-room, key-covers, place-back, low-cond, own-is}
+use borrow.Author.Tests.{lt-ltb, le-ltb, ne-eqb}
+use Rattle.base.specs.Lists.{any, count, position}
+use Rattle.base.specs.Grid.{Place, Axis, along, move, same}
+use Rattle.base.proofs.Tests.{and→, either, not-both, below, →true}
+use Rattle.base.proofs.Lists.{in-get, in-count, position-of}
+use Rattle.base.proofs.Below.{any-position}
+use Rattle.base.proofs.Places.{same→, along-put}
+use Rattle.rules.specs.Survey.{Cell, cellsOf, Survey}
+use Rattle.rules.specs.Steps.{Side, sideLow, splitAcross, faceSteps, leafSteps}
+use Rattle.rules.specs.Outputs.{accepted, surveyOf}
+use Rattle.octree.specs.Lawful.{isCell, Octree}
+use Rattle.octree.proofs.Accepted.{Checked, lawful}
+use Rattle.octree.proofs.Cells.{→cell}
+use Rattle.octree.proofs.Queue.{box}
+use Rattle.octree.proofs.Records.{cell-count, box-first}
+use Rattle.cells.specs.Laid.{cellAt}
+use Rattle.trace.specs.Trace.{meets}
+use Rattle.across.specs.Across.{sideNumber, splitBeyond, Beyond}
+use Rattle.crossings.specs.Crossings.{Crossings}
+use Rattle.faces.specs.Faces.{rowSide, rowUpper, faceOn, rowSteps, smallTableSteps, sideTableSteps, leafTableSteps, Fits, Roomy, Reaching}
+use Rattle.faces.proofs.Steps.{collect-same, row-steps-are}
+use Rattle.faces.proofs.Small.{turned, smallSteps, whole-steps, checks-of, small-are}
 
-pub leaf-room : (tc : List ℕ) → Grown tc → (n key level : ℕ) → LeafAt tc n key level
-    → (level ≤ 10) × ((a : Axis) → along a (placeWith key) + 2 ^ level ≤ 1024)
-leaf-room tc g n key level h =
-    let c = subst (λ l. T (isCell (cellsOf tc) l (placeWith key))) (h .level-is)
-    (subst (λ p. T (isCell (cellsOf tc) (cellAt tc n .level) p)) (h .low-is) (cell-is tc g n (h .inside))) in
-    (tree tc g .shallow level (placeWith key) c, cell-in-box (cellsOf tc) (tree tc g) level (placeWith key) c)
+-- ---- the two rows on a side
 
-pub moved-ready : (key level : ℕ) → level ≤ 10 → ((a : Axis) → along a (placeWith key) + 2 ^ level ≤ 1024)
-    → (level ≤ 10) × ((a : Axis) → along a (placeWith key) ≤ 1024)
-moved-ready key level l h = (l, (λ a. omega (arith, h a)))
+own-side : (i : ℕ) → i < 6 → (rowSide i ≡ sideNumber i) × (rowUpper i ≡ sideNumber i .upper)
+own-side i h =
+    let e : i % 6 ≡ i = omega arith in
+    (ap sideNumber e, ap (λ k. Bool·beq (sideNumber k .upper) (ltb i 6)) e ∙ ap (Bool·beq (sideNumber i .upper)) (lt-ltb i 6 h) ∙ upper (sideNumber i .upper))
+  where
+    upper : (u : Bool) → Bool·beq u true ≡ u
+    upper true = refl
+    upper false = refl
 
-pub across-upper : (n : ℕ) (u : Bool) (key level : ℕ) (q : Place) → u ≡ true → q ≡ move (axisOf n) (2 ^ level) (placeWith key)
-    → q ≡ cond u (move (axisOf n) (2 ^ level) (placeWith key)) (back (axisOf n) (2 ^ level) (placeWith key))
-across-upper n true key level q e h = h
-across-upper n false key level q e h = absurd (subst T (sym e) tt)
+other-side : (i : ℕ) → i < 6 → (rowSide (6 + i) ≡ sideNumber i) × (rowUpper (6 + i) ≡ not (rowSide (6 + i) .upper))
+other-side i h =
+    let e : (6 + i) % 6 ≡ i = omega arith in
+    (ap sideNumber e, ap (Bool·beq (rowSide (6 + i) .upper)) (le-ltb (6 + i) 6 (omega arith)) ∙ lower (rowSide (6 + i) .upper))
+  where
+    lower : (u : Bool) → Bool·beq u false ≡ not u
+    lower true = refl
+    lower false = refl
 
-module _ (n : ℕ) (u : Bool) (key level o s r : ℕ) (e : u ≡ false) (h : (not u && ltb (along (axisOf n) (placeWith key)) (2 ^ level)) ≡ false)
-    (eo : o ≡ octantBit (axisOf n)) (es : s ≡ 2 ^ level) (er : r ≡ octantKey o s) where
-  r-is : r ≡ 2 ^ level * keyUnit (axisOf n)
-  r-is = er ∙ ap (λ b. octantKey b s) eo ∙ ap (octantKey (octantBit (axisOf n))) es ∙ octant-unit (axisOf n) (2 ^ level)
+-- no cell lies across its own side
+not-itself : (u : Bool) (a : Axis) (l : ℕ) (p : Place) → cond u (move a (2 ^ l) p) p ≡ cond u p (move a (2 ^ l) p) → ⊥
+not-itself true a l p e = omega (arith, ap (along a) e, along-put a (along a p + 2 ^ l) p, pow-pos l)
+not-itself false a l p e = omega (arith, ap (along a) e, along-put a (along a p + 2 ^ l) p, pow-pos l)
 
-  room : 2 ^ level ≤ along (axisOf n) (placeWith key)
-  room = lower-room u (along (axisOf n) (placeWith key)) (2 ^ level) e h
+-- ---- the steps of a leaf
 
-  pub across-fits : r ≤ key
-  across-fits = omega (arith, r-is, key-covers (axisOf n) key (2 ^ level) room)
+module _ (tc tk : List ℕ) (clearance : Float) (ok : accepted tc tk clearance ≡ true) where
+  checks : Checked tc tk
+  checks = checks-of tc tk clearance ok
 
-  pub across-lower : placeWith (key - r) ≡ cond u (move (axisOf n) (2 ^ level) (placeWith key)) (back (axisOf n) (2 ^ level) (placeWith key))
-  across-lower = ap (λ d. placeWith (key - d)) r-is ∙ place-back (axisOf n) key (2 ^ level) room
-      ∙ ap (λ b. cond b (move (axisOf n) (2 ^ level) (placeWith key)) (back (axisOf n) (2 ^ level) (placeWith key))) (sym e)
+  count-is : length (cellsOf tc) ≡ length tc / 4
+  count-is = cell-count tc (checks .entries-right)
 
--- ---- the steps on a side
-
--- sides by number
-pub side-less : (i : ℕ) → i < 6 → i / 2 < 3
-side-less i h = omega arith
-
-module _ (tc tk : List ℕ) (clearance : Float) (axis : ℕ) (upper : Bool) (key level n : ℕ) (far : Bool) (f : Facet)
-    (x : SideFacet axis upper key level n far f) where
-  -- the small faces of the cell across
-  pub split-recorded : (t u : Trace) → Recorded (facetSteps (surveyOf tc tk clearance) f) t u
-      → Recorded (sideSteps (surveyOf tc tk clearance) (sideAt axis upper) (placeWith key) level) t u
-  split-recorded t u r =
-      let s = surveyOf tc tk clearance in
-      subst (λ p. Recorded (smallSteps s (sideAt axis upper) p level) t u) (x .placed) (subst (λ (g : Facet). Recorded (facetSteps s g) t u) (x .made) r)
-
-  -- the own side
-  pub own-recorded : (m : ℕ) (t u : Trace) → FoundAcross tc axis upper key level m → length tc / 4 ≤ m
-      → Recorded (faceSteps (surveyOf tc tk clearance) (sideOf f) (faceOf f)) t u
-      → Recorded (sideSteps (surveyOf tc tk clearance) (sideAt axis upper) (placeWith key) level) t u
+  tree : Octree (cellsOf tc)
   unfolding surveyOf
-  own-recorded m t u a h r =
-      let s = surveyOf tc tk clearance in
-      let sd = sideAt axis upper in
-      let p = sideLow sd (cell (placeWith key) level false) in
-      subst (λ ss. Recorded ss t u) (ap (λ (g : Facet). faceSteps s (sideOf g) (faceOf g)) (x .made) ∙ ap (λ q. faceSteps s sd (face q level)) (x .placed)
-      ∙ whole-steps s sd p level (a .whole h)) r
+  tree = lawful tc tk clearance (→true ok) .octree
 
-module _ (tc tk : List ℕ) (clearance : Float) (axis : ℕ) (upper : Bool) (key level n : ℕ) (f : Facet)
-    (x : SideFacet axis upper key level n upper f) where
-  -- a leaf's own side is a side of it
-  pub own-faced : axis < 3 → LeafAt tc n key level → Faced tc f
-  own-faced h l = subst (Faced tc) (sym (x .made)) (record {
-    axis-less = h;
-    inside = l .inside;
-    level-is = l .level-is;
-    far = upper;
-    bit-is = refl;
-    place-is = x .placed ∙ low-cond axis upper level (placeWith key) ∙ ap (λ p. cond upper (move (axisOf axis) (2 ^ level) p) p) (sym (l .low-is));
-  })
+  -- two records of level 10 are about the box
+  only-box : (n : ℕ) → n < length tc / 4 → cellAt tc n .level ≡ cellAt tc 0 .level → cellAt tc n .low ≡ cellAt tc 0 .low
+  only-box n h e =
+      let first = box-first tc (checks .entries-right) box in
+      tree .only-box (cellAt tc n .low)
+      (subst (λ l. T (isCell (cellsOf tc) l (cellAt tc n .low))) (e ∙ ap (λ (c : Cell). c .level) first)
+      (→cell (cellsOf tc) (cellAt tc n) (in-get (cellsOf tc) n box (omega (arith, count-is)))))
+      ∙ sym (ap (λ (c : Cell). c .low) first)
 
-  -- and the pattern from the marks of its corners is the side's
-  pub own-patterned : (wet : List ℕ) → wet ≡ cornerMarks tk clearance key level
-      → ownPattern wet axis upper ≡ facePattern (surveyOf tc tk clearance) (sideOf f) (faceOf f)
-  own-patterned wet e =
-      own-is tk clearance tc axis upper key level wet (x .side) e (x .placed)
-      ∙ ap (λ (g : Facet). facePattern (surveyOf tc tk clearance) (sideOf g) (faceOf g)) (sym (x .made))
+  module _ (n : ℕ) (inside : n < length tc / 4) (side : Side) where
+    abbrev c : Cell
+    c = cellAt tc n
 
--- ---- the own pattern
+    abbrev beyond : Cell → Bool
+    beyond = splitAcross side (sideLow side c) (c .level)
 
-module _ (n : ℕ) (u : Bool) (low m c o h : ℕ) (el : low ≡ sideBit n u) (em : axisOf m ≡ sideAt n u .right) (ec : c ≡ octantBit (axisOf m))
-    (eo : axisOf o ≡ sideAt n u .up) (eh : h ≡ octantBit (axisOf o)) where
-  c-is : c ≡ octantBit (sideAt n u .right)
-  c-is = ec ∙ ap octantBit em
+    -- the record of the split cell across
+    record Found (m : ℕ) : Type 0 where
+      there : m < length tc / 4
+      named : splitBeyond (cellsOf tc) side c ≡ m
+      level-is : c .level ≡ cellAt tc m .level
+      low-is : sideLow side c ≡ cond (side .upper) (cellAt tc m .low) (move (side .across) (2 ^ c .level) (cellAt tc m .low))
+      not-first : m ≡ 0 → ⊥
 
-  h-is : h ≡ octantBit (sideAt n u .up)
-  h-is = eh ∙ ap octantBit eo
+    found : T (any beyond (cellsOf tc)) → (m : ℕ) × Found m
+    unfolding splitBeyond
+    found t =
+        let (m, at, few, t) = position-of beyond box (cellsOf tc) 0 t in
+        let d = cellAt tc m in
+        let u = and→ (d .split) (eqb (c .level) (d .level) && same (sideLow side c) (shown (d .low))) t in
+        let v = and→ (eqb (c .level) (d .level)) (same (sideLow side c) (shown (d .low))) (u .1) in
+        let level = eqb→eq (c .level) (d .level) (v .0) in
+        let low = same→ (sideLow side c) (shown (d .low)) (v .1) in
+        let is : position beyond 0 (cellsOf tc) ≡ m = omega arith in (
+          m,
+          record {
+            there = omega (arith, count-is);
+            named =
+                ap (λ k. cond (ltb k (length (cellsOf tc))) k 0) is ∙ ap (λ b. cond b m 0) (lt-ltb m (length (cellsOf tc)) few);
+            level-is = level;
+            low-is = low;
+            not-first = λ z.
+                let here = only-box n inside (level ∙ ap (λ k. cellAt tc k .level) z) in
+                not-itself (side .upper) (side .across) (c .level) (c .low)
+                (low ∙ ap shown (ap (λ k. cellAt tc k .low) z ∙ sym here));
+          },
+        )
+      where
+        shown : Place → Place
+        shown p = cond (side .upper) p (move (side .across) (2 ^ c .level) p)
 
-  pub own-octants : low + c + h < 8
-  own-octants = omega (arith, eight n u u, c-is, h-is)
+    not-found : any beyond (cellsOf tc) ≡ false → splitBeyond (cellsOf tc) side c ≡ 0
+    unfolding splitBeyond
+    not-found e = ap (λ b. cond b (position beyond 0 (cellsOf tc)) 0) (le-ltb (position beyond 0 (cellsOf tc)) (length (cellsOf tc)) (far (below p k)))
+      where
+        p : ℕ
+        p = position beyond 0 (cellsOf tc)
 
-  pub own-sum : (wet : List ℕ) (a b d e : ℕ) → a ≡ bit (eqb (getD wet low 0) 1) → b ≡ bit (eqb (getD wet (low + c) 0) 1)
-      → d ≡ bit (eqb (getD wet (low + c + h) 0) 1) → e ≡ bit (eqb (getD wet (low + h) 0) 1)
-      → (a ≤ 1) × (b ≤ 1) × (d ≤ 1) × (e ≤ 1) → (a + 2 * b + 4 * d + 8 * e ≡ ownPattern wet n u) × (a + 2 * b + 4 * d + 8 * e < 16)
-  unfolding ownPattern
-  own-sum wet a b d e ea eb ed ee (la, lb, ld, le) =
-      let mark : ℕ → ℕ = λ i. bit (eqb (getD wet i 0) 1) in
-      let fa : a ≡ mark (sideBit n u) = ea ∙ ap mark el in
-      let fb : b ≡ mark (sideBit n u + octantBit (sideAt n u .right)) = eb ∙ ap (λ i. mark (i + c)) el ∙ ap (λ i. mark (sideBit n u + i)) c-is in
-      let fd : d ≡ mark (sideBit n u + octantBit (sideAt n u .right) + octantBit (sideAt n u .up)) =
-      ed ∙ ap (λ i. mark (i + c + h)) el ∙ ap (λ i. mark (sideBit n u + i + h)) c-is
-      ∙ ap (λ i. mark (sideBit n u + octantBit (sideAt n u .right) + i)) h-is in
-      let fe : e ≡ mark (sideBit n u + octantBit (sideAt n u .up)) = ee ∙ ap (λ i. mark (i + h)) el ∙ ap (λ i. mark (sideBit n u + i)) h-is in
-      ((λ i. fa i + 2 * fb i + 4 * fd i + 8 * fe i), omega arith)
+        k : ℕ
+        k = length (cellsOf tc)
 
--- ---- taking up a leaf
+        far : (p < k) ⊎ (k ≤ p) → k ≤ p
+        far (inl l) = absurd (not-both (any-position beyond (cellsOf tc) 0 (omega arith)) e)
+        far (inr l) = l
 
--- the corner of a record is the one that the rules take at its place
-pub corner-is : (tk : List ℕ) → Bytes tk → rising (placesOf tk) ≡ true → (tc : List ℕ) (n i k : ℕ) (c : Corner) → Octant tc tk n i k → c ≡ cornerRecord tk k
-    → c ≡ cornerAt (cornersOf tk) (octantOf tc n i)
-corner-is tk b up tc n i k c o q = q ∙ record-corner tk b up k (o .number) ∙ ap (cornerAt (cornersOf tk)) (o .place)
+    pub beyond-inside : splitBeyond (cellsOf tc) side c < length tc / 4
+    beyond-inside = go (either (any beyond (cellsOf tc)))
+      where
+        go : T (any beyond (cellsOf tc)) ⊎ (any beyond (cellsOf tc) ≡ false) → splitBeyond (cellsOf tc) side c < length tc / 4
+        go (inl t) = let (m, f) = found t in omega (arith, f .there, f .named)
+        go (inr e) = omega (arith, not-found e)
 
--- a list of eight
-pub eight-marks : (f : Corner → ℕ) (d : Corner) (l : List Corner) → length l ≡ 8 → (a b c e g h i j : ℕ)
-    → a ≡ f (getD l 0 d) → b ≡ f (getD l 1 d) → c ≡ f (getD l 2 d) → e ≡ f (getD l 3 d)
-    → g ≡ f (getD l 4 d) → h ≡ f (getD l 5 d) → i ≡ f (getD l 6 d) → j ≡ f (getD l 7 d)
-    → a ∷ b ∷ c ∷ e ∷ g ∷ h ∷ i ∷ j ∷ [] ≡ map f l
-eight-marks f d (x0 ∷ x1 ∷ x2 ∷ x3 ∷ x4 ∷ x5 ∷ x6 ∷ x7 ∷ []) n a b c e g h i j ea eb ec ee eg eh ei ej =
-    λ k. ea k ∷ eb k ∷ ec k ∷ ee k ∷ eg k ∷ eh k ∷ ei k ∷ ej k ∷ []
-eight-marks f d [] n a b c e g h i j ea eb ec ee eg eh ei ej = absurd (omega arith)
-eight-marks f d (x0 ∷ []) n a b c e g h i j ea eb ec ee eg eh ei ej = absurd (omega arith)
-eight-marks f d (x0 ∷ x1 ∷ []) n a b c e g h i j ea eb ec ee eg eh ei ej = absurd (omega arith)
-eight-marks f d (x0 ∷ x1 ∷ x2 ∷ []) n a b c e g h i j ea eb ec ee eg eh ei ej = absurd (omega arith)
-eight-marks f d (x0 ∷ x1 ∷ x2 ∷ x3 ∷ []) n a b c e g h i j ea eb ec ee eg eh ei ej = absurd (omega arith)
-eight-marks f d (x0 ∷ x1 ∷ x2 ∷ x3 ∷ x4 ∷ []) n a b c e g h i j ea eb ec ee eg eh ei ej = absurd (omega arith)
-eight-marks f d (x0 ∷ x1 ∷ x2 ∷ x3 ∷ x4 ∷ x5 ∷ []) n a b c e g h i j ea eb ec ee eg eh ei ej = absurd (omega arith)
-eight-marks f d (x0 ∷ x1 ∷ x2 ∷ x3 ∷ x4 ∷ x5 ∷ x6 ∷ []) n a b c e g h i j ea eb ec ee eg eh ei ej = absurd (omega arith)
-eight-marks f d (x0 ∷ x1 ∷ x2 ∷ x3 ∷ x4 ∷ x5 ∷ x6 ∷ x7 ∷ x8 ∷ l) n a b c e g h i j ea eb ec ee eg eh ei ej = absurd (omega arith)
+  module _ (across crossings : List ℕ) (wide : Beyond tc across) (table : Crossings (surveyOf tc tk clearance) tc crossings)
+      (n : ℕ) (inside : n < length tc / 4) where
+    abbrev s : Survey
+    s = surveyOf tc tk clearance
 
--- ---- the leaf of a record
+    side-steps-are : (i : ℕ) → i < 6 → let side = sideNumber i in
+        sideTableSteps tc across crossings n i ≡ smallSteps s side (sideLow side (cellAt tc n)) (cellAt tc n .level)
+    unfolding sideTableSteps surveyOf
+    side-steps-are i h = go (either (any (splitAcross side (sideLow side c) (c .level)) (cellsOf tc)))
+      where
+        side : Side
+        side = sideNumber i
 
-module _ (tc keys levels : List ℕ) (laid : Laid tc keys levels) (n : ℕ) (h : n < length tc / 4) where
-  pub place-is : placeWith (getD keys n 0) ≡ cellAt tc n .low
-  place-is =
-      let e = laid .entered n h in
-      ap placeWith (e .key) ∙ place-of-key (cellAt tc n .low) (omega (arith, e .in-box X)) (omega (arith, e .in-box Y))
+        c : Cell
+        c = cellAt tc n
 
-  pub leaf-is : LeafAt tc n (getD keys n 0) (getD levels n 0)
-  leaf-is = record { inside = h; level-is = sym (laid .entered n h .level); low-is = sym place-is }
+        chosen : (m : ℕ) → getD across (6 * n + i) 0 ≡ m → sideTableSteps tc across crossings n i
+            ≡ cond (eqb m 0) (rowSteps crossings i n) (smallTableSteps tc crossings (6 + i) m)
+        chosen m e = ap (λ m. cond (eqb m 0) (rowSteps crossings i n) (smallTableSteps tc crossings (6 + i) m)) e
 
-pub leaf-corners : (tk : List ℕ) (c : Cell) (l : Leaf) → l ≡ leafOf (cornersOf tk) c → length (l .corners) ≡ 8
-unfolding leafOf
-leaf-corners tk c l e = ap (λ (x : Leaf). length (x .corners)) e
+        go : T (any (splitAcross side (sideLow side c) (c .level)) (cellsOf tc)) ⊎ (any (splitAcross side (sideLow side c) (c .level)) (cellsOf tc) ≡ false)
+            → sideTableSteps tc across crossings n i ≡ smallSteps s side (sideLow side c) (c .level)
+        go (inl t) =
+            let (m, f) = found n inside side t in
+            let (there, away) = other-side i h in
+            let d = cellAt tc m in
+            chosen m (wide .entry n i inside h ∙ f .named)
+            ∙ ap (λ b. cond b (rowSteps crossings i n) (smallTableSteps tc crossings (6 + i) m)) (ne-eqb m 0 (f .not-first))
+            ∙ small-are tc tk clearance ok crossings table (6 + i) away m (f .there)
+            ∙ ap (λ u. smallSteps s (rowSide (6 + i)) (faceOn (rowSide (6 + i)) u d .low) (d .level)) away
+            ∙ ap (λ x. smallSteps s x (faceOn x (not (x .upper)) d .low) (d .level)) there
+            ∙ ap (λ l. smallSteps s side (cond (not (side .upper)) (move (side .across) (2 ^ l) (d .low)) (d .low)) l) (sym (f .level-is))
+            ∙ ap (λ p. smallSteps s side p (c .level)) (turned (side .upper) (move (side .across) (2 ^ c .level) (d .low)) (d .low) ∙ sym (f .low-is))
+        go (inr e) =
+            let (here, upper) = own-side i h in
+            chosen 0 (wide .entry n i inside h ∙ not-found n inside side e)
+            ∙ row-steps-are tc tk clearance crossings table n inside i
+            ∙ ap (λ u. faceSteps s (rowSide i) (faceOn (rowSide i) u c)) upper
+            ∙ ap (λ x. faceSteps s x (faceOn x (side .upper) c)) here
+            ∙ whole-steps s side (sideLow side c) (c .level) e
 
-pub marks-are : (tc tk : List ℕ) (clearance : Float) (n key level : ℕ) → LeafAt tc n key level → (l : Leaf) (wets : List ℕ)
-    → l ≡ leafOf (cornersOf tk) (cellAt tc n) → wets ≡ map (λ c. bit (wet clearance c)) (l .corners) → wets ≡ cornerMarks tk clearance key level
-unfolding leafOf cornerMarks wetAt
-marks-are tc tk clearance n key level h l wets e f =
-    f ∙ ap (λ (x : Leaf). map (λ c. bit (wet clearance c)) (x .corners)) e
-    ∙ (λ i. map (λ p. bit (wetAt (cornersOf tk) clearance p)) (octants (2 ^ h .level-is i) (h .low-is i)))
+    -- the steps of the tables are those of the rules
+    pub leaf-steps-are : leafTableSteps tc across crossings n ≡ leafSteps s (cellAt tc n)
+    unfolding leafTableSteps leafSteps smallSteps
+    leaf-steps-are =
+        let c = cellAt tc n in
+        collect-same (sideTableSteps tc across crossings n) (λ i. smallSteps s (sideNumber i) (sideLow (sideNumber i) c) (c .level)) (count 0 6)
+        (λ i j. side-steps-are i (let l = in-count 6 0 i j in omega arith))
 
--- the steps on the six sides are those of the leaf
-pub sides-recorded : (s : Survey) (c : Cell) (p : Place) (l : ℕ) (t u : Trace) → p ≡ c .low → l ≡ c .level
-    → Recorded (firsts (λ i. sideSteps s (sideNumber i) p l) 6) t u → Recorded (leafSteps s c) t u
-unfolding leafSteps smallSteps
-sides-recorded s c p l t u ep el r =
-    subst (λ ss. Recorded ss t u) (simp (append-assoc, append-nil) (rw (ep, el))) r
+    pub roomy : Roomy tc crossings
+    roomy = record { entries-right = checks .entries-right; room = table .room }
+
+    pub reaching : Reaching tc across n
+    reaching = record {
+      inside = inside;
+      room = wide .room;
+      named = λ i h. let few = beyond-inside n inside (sideNumber i) in omega (arith, wide .entry n i inside h);
+    }
+
+    pub fitting : (limit room : ℕ) → room ≡ 3 * limit + 1 → limit ≤ 14616 → ((v : ℕ) → meets (leafSteps s (cellAt tc n)) v ≡ true → v < limit)
+        → Fits (leafTableSteps tc across crossings n) room
+    fitting limit room e few within = subst (λ ss. Fits ss room) (sym leaf-steps-are) (record {
+      small = omega arith;
+      inside = λ v m. let h = within v m in omega arith;
+    })

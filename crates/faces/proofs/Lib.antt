@@ -1,12 +1,7 @@
 pub mod Table
+pub mod Patterns
 pub mod Rows
-pub mod Firsts
-pub mod Descent
-pub mod Faces
-pub mod Keys
-pub mod Looks
 pub mod Steps
-pub mod Across
-pub mod FaceCorners
-pub mod Own
+pub mod Small
 pub mod Leaves
+pub mod Recording

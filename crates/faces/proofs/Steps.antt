@@ -1,150 +1,157 @@
--- The points of a face's odd edges, the steps of its four rows recorded one after the other, and those of its quarters.
-use Prim.Native.Nat.{ℕ, zero, suc, _/_, _%_, _≤_, _<_}
+-- The steps in a row of a record, by the table of crossings, are those of the rules in its face.
+use Prim.Native.Nat.{ℕ, zero, suc, _+_, _*_, _/_, _%_, _^_, _≤_, _<_}
 use mathlib.Core.Path.{_≡_, refl, sym, ap, _∙_, subst}
-use mathlib.Core.Logic.{_⊎_, inl, inr}
-use mathlib.Core.Bool.{Bool, true, cond}
-use mathlib.Core.List.{List, [], _∷_, map}
+use mathlib.Core.Logic.{inl, inr}
+use mathlib.Core.Bool.{Bool, true, false, not, Bool·beq, cond}
+use mathlib.Core.List.{List, [], _∷_, _++_, map, map-append}
 use native.Mathlib.Omega.{arith}
-use lib.Dec.{T}
-use lib.ListN.{length}
+use native.Mathlib.Nat.{pow-succ', zero-div, div-div-eq-div-mul}
+use lib.Dec.{T, eqb, ltb, ltb→lt}
+use lib.ListN.{length, getD, List·getD-map}
 use lib.Ieee.{Float}
-use borrow.Author.Tests.{lt-ltb, le-ltb}
-use Rattle.base.specs.Grid.{Place, axisOf}
-use Rattle.base.proofs.Tests.{→true, below}
-use Rattle.rules.specs.Survey.{cellsOf, cornersOf, wetAt, Survey}
-use Rattle.rules.specs.Edges.{edge, isEdge, odd, pointEdges, carrier, pointOf}
-use Rattle.rules.specs.Steps.{Side, Face, faceCorner, faceEdge, Step, faceSteps}
-use Rattle.rules.specs.Outputs.{accepted, surveyOf}
-use Rattle.octree.proofs.Accepted.{lawful}
-use Rattle.octree.proofs.Halves.{carrier-crossed}
-use Rattle.octree.proofs.Points.{crossed-carries}
-use Rattle.records.specs.Keys.{placesOf}
-use Rattle.edges.specs.Tables.{placeAt, OddEdge, Lowest}
-use Rattle.edges.proofs.TwinSlots.{points-few}
-use Rattle.trace.specs.Trace.{Trace, Sized, Recorded}
-use Rattle.trace.proofs.Laws.{recorded-none}
-use Rattle.faces.specs.Descent.{placeWith}
-use Rattle.faces.specs.Patterns.{stepFrom, stepTo}
-use Rattle.faces.specs.Faces.{sideOf, faceOf, Faced, OddAt, facePattern, pointStep, rowSteps}
-use Rattle.faces.specs.declared.Facet.{Facet}
-use Rattle.faces.proofs.Faces.{side-axes, edge-of, odd-is, step-odd, face-rows}
-use Rattle.faces.proofs.Firsts.{firsts}
-use Rattle.faces.proofs.Looks.{side-of}
+use Rattle.base.specs.Lists.{collect, count, bit}
+use Rattle.base.specs.Grid.{Place, origin, move}
+use Rattle.base.proofs.Tests.{true→}
+use Rattle.base.proofs.Lists.{In, get-any, in-count}
+use Rattle.rules.specs.Survey.{cellCorners, Survey}
+use Rattle.rules.specs.Edges.{CellEdge, odd, pointOf}
+use Rattle.rules.specs.Steps.{Side, Face, faceCorner, faceEdge, Step, saddleCut, faceSteps}
+use Rattle.rules.specs.Outputs.{surveyOf}
+use Rattle.cells.specs.Laid.{cellAt}
+use Rattle.crossings.specs.Crossings.{crossingOf, binary, wetMask, Crossings}
+use Rattle.faces.specs.Patterns.{wetDigit, stepFrom, patternOf, stepTo}
+use Rattle.faces.specs.Faces.{rowSide, rowCorner, rowEdge, rowPattern, edgeSteps, rowSteps}
+use Rattle.faces.proofs.Patterns.{differ, steps-by-edge, step-odd}
+use Rattle.faces.proofs.Rows.{rowFace, turned-up, numbers-few, corner-is, edge-is}
 
-whole-edge : (s : Side) (f : Face) (i : ℕ) → edge (faceEdge s f i .axis) (faceEdge s f i .low) (f .level) ≡ faceEdge s f i
-whole-edge s f zero = refl
-whole-edge s f (suc zero) = refl
-whole-edge s f (suc (suc zero)) = refl
-whole-edge s f (suc (suc (suc i))) = refl
+-- ---- lists
 
--- all corners dry, all corners wet
-no-rows : (s : Survey) (side : Side) (f : Face) → (firsts (rowSteps s side f 0) 4 ≡ []) × (firsts (rowSteps s side f 15) 4 ≡ [])
-unfolding rowSteps stepFrom
-no-rows s side f = (refl, refl)
+pub collect-same : {A B : Type 0} (f g : A → List B) (xs : List A) → ((x : A) → In x xs → f x ≡ g x) → collect f xs ≡ collect g xs
+collect-same f g [] h = refl
+collect-same f g (x ∷ xs) h =
+    ap (λ l. l ++ collect f xs) (h x (inl refl)) ∙ ap (λ l. g x ++ l) (collect-same f g xs (λ y i. h y (inr i)))
 
-module _ (tc tk : List ℕ) (clearance : Float) (ok : accepted tc tk clearance ≡ true)
-    (f : Facet) (x : Faced tc f) where
-  is-edge : (i : ℕ) → let e = faceEdge (sideOf f) (faceOf f) i in T (isEdge (cellsOf tc) (e .axis) (e .low) (f .level))
-  is-edge i =
-      let (q, c, h) = side-of tc tk clearance ok f x in
-      edge-of (sideOf f) (side-axes (f .axis) (f .upper)) (f .level) (placeWith (f .key)) q h (cellsOf tc) c i
+pub map-collect : {A B C : Type 0} (f : B → C) (g : A → List B) (xs : List A) → map f (collect g xs) ≡ collect (λ x. map f (g x)) xs
+map-collect f g [] = refl
+map-collect f g (x ∷ xs) = map-append f (g x) (collect g xs) ∙ ap (λ l. map f (g x) ++ l) (map-collect f g xs)
 
-  -- what the point of an odd edge asks
-  pub edge-ready : (i n k : ℕ) → axisOf n ≡ faceEdge (sideOf f) (faceOf f) i .axis
-      → (k < length tk / 10) × (placeAt (placesOf tk) k ≡ faceEdge (sideOf f) (faceOf f) i .low) → OddAt tk clearance f i
-      → OddEdge tc tk clearance (axisOf n) k (f .level)
-  edge-ready i n k a (h, e) o = record {
-    inside = h;
-    is-edge =
-        subst (λ b. T (isEdge (cellsOf tc) b (placeAt (placesOf tk) k) (f .level))) (sym a)
-        (subst (λ q. T (isEdge (cellsOf tc) (faceEdge sd fc i .axis) q (f .level))) (sym e) (is-edge i));
-    is-odd =
-        subst (λ b. T (odd (wetAt (cornersOf tk) clearance) b (placeAt (placesOf tk) k) (f .level))) (sym a)
-        (subst (λ q. T (odd (wetAt (cornersOf tk) clearance) (faceEdge sd fc i .axis) q (f .level))) (sym e) o);
-  }
-    where
-      sd : Side
-      sd = sideOf f
+-- ---- the digits of a mask
 
-      fc : Face
-      fc = faceOf f
+digit-is : (bs : List Bool) (i : ℕ) → wetDigit (binary bs) i ≡ getD bs i false
+digit-is [] i = rw zero-div
+digit-is (b ∷ bs) zero = let e : (bit b + 2 * binary bs) / 2 ^ 0 % 2 ≡ bit b = omega (arith, bit-few b) in ap (λ n. eqb n 1) e ∙ one b
+  where
+    bit-few : (b : Bool) → bit b < 2
+    bit-few true = omega arith
+    bit-few false = omega arith
 
-  -- the point that is found is that of the edge, and it is one of the points
-  pub point-is : (lowest : List ℕ) → Lowest tc tk lowest → (i n k r : ℕ) → axisOf n ≡ faceEdge (sideOf f) (faceOf f) i .axis
-      → (k < length tk / 10) × (placeAt (placesOf tk) k ≡ faceEdge (sideOf f) (faceOf f) i .low) → OddAt tk clearance f i
-      → r ≡ pointOf (surveyOf tc tk clearance) (edge (axisOf n) (placeAt (placesOf tk) k) (f .level))
-      → (r ≡ pointOf (surveyOf tc tk clearance) (faceEdge (sideOf f) (faceOf f) i)) × (r < 14616)
-  unfolding surveyOf pointOf
-  point-is lowest low i n k r a (h, e) o q =
-      let s = surveyOf tc tk clearance in
-      let sd = sideOf f in
-      let fc = faceOf f in
-      let g = faceEdge sd fc i in
-      let law = lawful tc tk clearance (→true ok) in
-      let w : edge (axisOf n) (placeAt (placesOf tk) k) (f .level) ≡ g =
-      ap (λ b. edge b (placeAt (placesOf tk) k) (f .level)) a ∙ ap (λ x. edge (g .axis) x (f .level)) e ∙ whole-edge sd fc i in
-      let m : pointOf s (edge (g .axis) (g .low) (f .level)) < length (pointEdges s) = crossed-carries s law (carrier s (g .axis) (g .low) (f .level))
-      (carrier-crossed s (law .octree) (g .axis) (g .low) (f .level) (is-edge i) o) .0 in
-      let z : pointOf s (edge (g .axis) (g .low) (f .level)) ≡ pointOf s g = ap (pointOf s) (whole-edge sd fc i) in
-      let t = q ∙ ap (pointOf s) w in
-      (t, omega (arith, points-few tc tk clearance ok lowest low))
+    one : (b : Bool) → eqb (bit b) 1 ≡ b
+    one true = refl
+    one false = refl
+digit-is (b ∷ bs) (suc i) = ap (λ n. eqb (n % 2) 1) halved ∙ digit-is bs i
+  where
+    low : (b : Bool) (n : ℕ) → (bit b + 2 * n) / 2 ≡ n
+    low true n = omega arith
+    low false n = omega arith
 
-  -- both edges of a step are odd
-  pub step-ready : (pattern i j : ℕ) → i < 4 → pattern ≡ facePattern (surveyOf tc tk clearance) (sideOf f) (faceOf f)
-      → j ≡ stepFrom pattern i → j < 4 → OddAt tk clearance f i × OddAt tk clearance f j
-  unfolding facePattern surveyOf
-  step-ready pattern i j h e d l =
-      let sd = sideOf f in
-      let fc = faceOf f in
-      let wet : Place → Bool = wetAt (cornersOf tk) clearance in
-      let w : ℕ → Bool = λ n. wet (faceCorner sd fc n) in
-      let o = step-odd (w 0) (w 1) (w 2) (w 3) i j h (d ∙ ap (λ p. stepFrom p i) e) l in
-      (subst T (sym (odd-is wet sd (side-axes (f .axis) (f .upper)) fc i)) (o .0), subst T (sym (odd-is wet sd (side-axes (f .axis) (f .upper)) fc j)) (o .1))
+    halved : (bit b + 2 * binary bs) / 2 ^ suc i ≡ binary bs / 2 ^ i
+    halved =
+        ap (λ d. (bit b + 2 * binary bs) / d) (pow-succ' 2 i) ∙ sym (div-div-eq-div-mul (bit b + 2 * binary bs) 2 (2 ^ i))
+        ∙ ap (λ n. n / 2 ^ i) (low b (binary bs))
 
-  -- no step enters by edge i
-  pub row-none : (pattern i j : ℕ) (t : Trace) → j ≡ stepFrom pattern i → 4 ≤ j → Sized t
-      → Recorded (rowSteps (surveyOf tc tk clearance) (sideOf f) (faceOf f) pattern i) t t
-  unfolding rowSteps
-  row-none pattern i j t e h z =
-      let sd = sideOf f in
-      let fc = faceOf f in
-      let n : stepTo i (stepFrom pattern i) ≡ [] = ap (λ b. cond b ((i, stepFrom pattern i) ∷ []) []) (le-ltb (stepFrom pattern i) 4 (omega arith)) in
-      subst (λ ss. Recorded ss t t) (sym (ap (map (pointStep (surveyOf tc tk clearance) sd fc)) n)) (recorded-none t z)
+-- a digit as a number
+pub digit-bit : (mask i n k : ℕ) → n ≡ mask → k ≡ i → (n / 2 ^ k % 2 ≡ bit (wetDigit mask i)) × (n / 2 ^ k % 2 ≤ 1)
+digit-bit mask i n k e f = (ap (λ n. n / 2 ^ k % 2) e ∙ ap (λ k. mask / 2 ^ k % 2) f ∙ sym (go (mask / 2 ^ i % 2) (omega arith)), omega arith)
+  where
+    go : (d : ℕ) → d < 2 → bit (eqb d 1) ≡ d
+    go zero h = refl
+    go (suc zero) h = refl
+    go (suc (suc d)) h = absurd (omega arith)
 
-  -- one step does
-  pub row-one : (pattern i j a b : ℕ) (t u : Trace) → j ≡ stepFrom pattern i → j < 4
-      → a ≡ pointOf (surveyOf tc tk clearance) (faceEdge (sideOf f) (faceOf f) i)
-      → b ≡ pointOf (surveyOf tc tk clearance) (faceEdge (sideOf f) (faceOf f) j)
-      → Recorded ((a, b) ∷ []) t u → Recorded (rowSteps (surveyOf tc tk clearance) (sideOf f) (faceOf f) pattern i) t u
-  unfolding rowSteps
-  row-one pattern i j a b t u e h ea eb r =
-      let s = surveyOf tc tk clearance in
-      let sd = sideOf f in
-      let fc = faceOf f in
-      let n : stepTo i j ≡ (i, j) ∷ [] = ap (λ x. cond x ((i, j) ∷ []) []) (lt-ltb j 4 h) in
-      let m : (a, b) ∷ [] ≡ map (pointStep s sd fc) (stepTo i (stepFrom pattern i)) =
-      ap (λ x. (x, b) ∷ []) ea ∙ ap (λ y. (pointOf s (faceEdge sd fc i), y) ∷ []) eb
-      ∙ ap (map (pointStep s sd fc)) (sym n) ∙ ap (λ k. map (pointStep s sd fc) (stepTo i k)) e in
-      subst (λ ss. Recorded ss t u) m r
+-- ---- odd edges
 
-  -- the four rows of a face
-  pub rows-recorded : (pattern : ℕ) (t u : Trace) → pattern ≡ facePattern (surveyOf tc tk clearance) (sideOf f) (faceOf f)
-      → Recorded (firsts (rowSteps (surveyOf tc tk clearance) (sideOf f) (faceOf f) pattern) 4) t u
-      → Recorded (faceSteps (surveyOf tc tk clearance) (sideOf f) (faceOf f)) t u
-  rows-recorded pattern t u e r =
-      let rows : ℕ → List Step = λ p. firsts (rowSteps (surveyOf tc tk clearance) (sideOf f) (faceOf f) p) 4 in
-      subst (λ ss. Recorded ss t u) (ap rows e ∙ sym (face-rows tc tk clearance (sideOf f) (faceOf f))) r
+turned-round : (a b : Bool) → not (Bool·beq a b) ≡ not (Bool·beq b a)
+turned-round true true = refl
+turned-round true false = refl
+turned-round false true = refl
+turned-round false false = refl
 
-  -- no row has a step where the corners are all dry or all wet
-  pub rows-none : (pattern : ℕ) (t : Trace) → pattern < 16 → pattern % 15 ≡ 0 → pattern ≡ facePattern (surveyOf tc tk clearance) (sideOf f) (faceOf f)
-      → Sized t → Recorded (faceSteps (surveyOf tc tk clearance) (sideOf f) (faceOf f)) t t
-  rows-none pattern t h z e s =
-      rows-recorded pattern t t e (subst (λ ss. Recorded ss t t) (sym (go (below pattern 15))) (recorded-none t s))
-    where
-      go : (pattern < 15) ⊎ (15 ≤ pattern) → firsts (rowSteps (surveyOf tc tk clearance) (sideOf f) (faceOf f) pattern) 4 ≡ []
-      go (inl l) =
-          let q : pattern ≡ 0 = omega arith in
-          ap (λ p. firsts (rowSteps (surveyOf tc tk clearance) (sideOf f) (faceOf f) p) 4) q ∙ no-rows (surveyOf tc tk clearance) (sideOf f) (faceOf f) .0
-      go (inr l) =
-          let q : pattern ≡ 15 = omega arith in
-          ap (λ p. firsts (rowSteps (surveyOf tc tk clearance) (sideOf f) (faceOf f) p) 4) q ∙ no-rows (surveyOf tc tk clearance) (sideOf f) (faceOf f) .1
+-- an edge of a face is odd just if the marks at its ends differ
+odd-is : (isWet : Place → Bool) (s : Side) (f : Face) (i : ℕ) →
+    move (s .right) (2 ^ f .level) (move (s .up) (2 ^ f .level) (f .low)) ≡ move (s .up) (2 ^ f .level) (move (s .right) (2 ^ f .level) (f .low)) →
+    let w : ℕ → Bool = λ i. isWet (faceCorner s f i) in
+    let e = faceEdge s f i in
+    odd isWet (e .axis) (e .low) (e .level) ≡ differ (w 0) (w 1) (w 2) (w 3) i
+unfolding odd
+odd-is isWet s f zero t = refl
+odd-is isWet s f (suc zero) t = ap (λ q. not (Bool·beq (isWet (faceCorner s f 1)) (isWet q))) (sym t)
+odd-is isWet s f (suc (suc zero)) t = turned-round (isWet (faceCorner s f 3)) (isWet (faceCorner s f 2))
+odd-is isWet s f (suc (suc (suc i))) t = turned-round (isWet (f .low)) (isWet (faceCorner s f 3))
+
+odd-crossing : (s : Survey) (e : CellEdge) → T (odd (s .isWet) (e .axis) (e .low) (e .level)) → crossingOf s e ≡ pointOf s e
+unfolding crossingOf
+odd-crossing s e t = ap (λ b. cond b (pointOf s e) 65535) (true→ (odd (s .isWet) (e .axis) (e .low) (e .level)) t)
+
+-- ---- the steps of a row
+
+-- a step from edge to edge, by the points of edges
+abbrev pub stepOf : (ℕ → ℕ) → Step → Step
+stepOf point t = (point (t .0), point (t .1))
+
+step-same : (f g : ℕ → ℕ) (i j : ℕ) → (j < 4 → (f i ≡ g i) × (f j ≡ g j)) → map (stepOf f) (stepTo i j) ≡ map (stepOf g) (stepTo i j)
+step-same f g i j h = go (ltb j 4) (λ t. h (ltb→lt j 4 t))
+  where
+    go : (b : Bool) → (T b → (f i ≡ g i) × (f j ≡ g j)) → map (stepOf f) (cond b ((i, j) ∷ []) []) ≡ map (stepOf g) (cond b ((i, j) ∷ []) [])
+    go true h = let (a, b) = h tt in λ k. (a k, b k) ∷ []
+    go false h = refl
+
+module _ (tc tk : List ℕ) (clearance : Float) (crossings : List ℕ) (table : Crossings (surveyOf tc tk clearance) tc crossings)
+    (m : ℕ) (inside : m < length tc / 4) (r : ℕ) where
+  abbrev s : Survey
+  s = surveyOf tc tk clearance
+
+  abbrev here : Face
+  here = rowFace r (cellAt tc m)
+
+  abbrev wetHere : ℕ → Bool
+  wetHere j = s .isWet (faceCorner (rowSide r) here j)
+
+  mark-is : (j : ℕ) → j < 4 → wetDigit (getD crossings (13 * m + 12) 0) (rowCorner r j) ≡ wetHere j
+  unfolding wetMask
+  mark-is j h =
+      let corners = cellCorners (cellAt tc m) in
+      let k = rowCorner r j in
+      ap (λ n. wetDigit n k) (table .wet m inside) ∙ digit-is (map (s .isWet) corners) k
+      ∙ get-any (map (s .isWet) corners) k false (s .isWet origin) (numbers-few r (cellAt tc m) j h .0) ∙ List·getD-map (s .isWet) corners k origin
+      ∙ ap (s .isWet) (corner-is r (cellAt tc m) j h)
+
+  pattern-is : rowPattern crossings r m ≡ patternOf (wetHere 0) (wetHere 1) (wetHere 2) (wetHere 3)
+  unfolding rowPattern
+  pattern-is = λ i. patternOf (mark-is 0 (omega arith) i) (mark-is 1 (omega arith) i) (mark-is 2 (omega arith) i) (mark-is 3 (omega arith) i)
+
+  point-is : (j : ℕ) → j < 4 → T (differ (wetHere 0) (wetHere 1) (wetHere 2) (wetHere 3) j)
+      → getD crossings (13 * m + rowEdge r j) 0 ≡ pointOf s (faceEdge (rowSide r) here j)
+  point-is j h t =
+      table .point m (rowEdge r j) inside (numbers-few r (cellAt tc m) j h .1) ∙ ap (crossingOf s) (edge-is r (cellAt tc m) j h)
+      ∙ odd-crossing s (faceEdge (rowSide r) here j)
+      (subst T (sym (odd-is (s .isWet) (rowSide r) here j (turned-up r (cellAt tc m) (here .low)))) t)
+
+  edge-steps-are : (j : ℕ) → j < 4 → let p = patternOf (wetHere 0) (wetHere 1) (wetHere 2) (wetHere 3) in
+      edgeSteps crossings r m p j ≡ map (stepOf (λ i. pointOf s (faceEdge (rowSide r) here i))) (stepTo j (stepFrom p j))
+  unfolding edgeSteps
+  edge-steps-are j h =
+      let k = stepFrom (patternOf (wetHere 0) (wetHere 1) (wetHere 2) (wetHere 3)) j in
+      step-same (λ i. getD crossings (13 * m + rowEdge r i) 0) (λ i. pointOf s (faceEdge (rowSide r) here i)) j k
+      (λ l. let o = step-odd (wetHere 0) (wetHere 1) (wetHere 2) (wetHere 3) j h l in (point-is j h (o .0), point-is k l (o .1)))
+
+  -- the steps in the row are those in the face
+  pub row-steps-are : rowSteps crossings r m ≡ faceSteps s (rowSide r) here
+  unfolding rowSteps faceSteps surveyOf saddleCut
+  row-steps-are =
+      let p = patternOf (wetHere 0) (wetHere 1) (wetHere 2) (wetHere 3) in
+      let f : Step → Step = stepOf (λ i. pointOf s (faceEdge (rowSide r) here i)) in
+      ap (λ q. collect (edgeSteps crossings r m q) (count 0 4)) pattern-is
+      ∙ collect-same (edgeSteps crossings r m p) (λ j. map f (stepTo j (stepFrom p j))) (count 0 4)
+      (λ j i. edge-steps-are j (let l = in-count 4 0 j i in omega arith))
+      ∙ sym (map-collect f (λ j. stepTo j (stepFrom p j)) (count 0 4))
+      ∙ sym (ap (map f) (steps-by-edge (wetHere 0) (wetHere 1) (wetHere 2) (wetHere 3)))

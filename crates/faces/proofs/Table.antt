@@ -1,11 +1,13 @@
--- The rule of a table of rows, proved at all of its entries by one test that antt computes.
+-- The rule of a table, proved at all of its entries by one test that antt computes: of a table of rows, and of a function that has a table of its own.
 use mathlib.Core.Path.{_≡_, _∙_, subst, sym}
 use mathlib.Core.Bool.{Bool, true, false}
-use mathlib.Core.List.{List, [], _∷_}
+use mathlib.Core.List.{List, [], _∷_, map}
 use Prim.Native.Nat.{ℕ, zero, suc, _+_, _<_}
 use native.Mathlib.Nat.{add-zero, zero-add, add-suc, suc-add, le-of-suc-le-suc, not-suc-le-zero}
 use lib.Dec.{T, eqb, eqb→eq}
 use lib.ListN.{length, getD}
+use Rattle.base.specs.Lists.{count}
+use Rattle.digits.proofs.Alike.{Alike, alike}
 
 abbrev both : Bool → Bool → Bool
 both true b = b
@@ -50,3 +52,10 @@ at-row rule m rows t w k h l =
     let n : length r ≡ m = eqb→eq (length r) m (both-left (eqb (length r) m) (every (λ k x. eqb x (rule w k)) 0 r) ok) in
     eqb→eq (getD r k 0) (rule w k)
     (at (λ k x. eqb x (rule w k)) 0 r (both-right (eqb (length r) m) (every (λ k x. eqb x (rule w k)) 0 r) ok) k (rw n l))
+
+-- two functions agree where their tables of twelve rows of four do
+abbrev pub row : (ℕ → ℕ → ℕ) → ℕ → List ℕ
+row f r = map (f r) (count 0 4)
+
+pub alike-rows : (f g : ℕ → ℕ → ℕ) → Alike 12 (row f) (row g) → (r j : ℕ) → r < 12 → j < 4 → f r j ≡ g r j
+alike-rows f g e r j h l = alike 0 4 (f r) (g r) (alike [] 12 (row f) (row g) e r h) j l

@@ -1,179 +1,114 @@
--- A side of a cell and a face by numbers, as the code has them, and the steps in a face row by row of the table.
-use Prim.Native.Nat.{ℕ, zero, suc, _+_, _-_, _*_, _/_, _%_, _^_, _≤_, _<_}
+-- The face steps of a leaf, by the tables of cells, of cells across and of crossings: in the shape of the rules' `leafSteps`.
+-- A row is a face of a cell as a leaf sees it. Row i, of six, is the leaf's own side i; row 6 + i is the side towards the leaf of a cell across its
+-- side i. Both are seen from outside the leaf, so right and up are those of side i.
+use Prim.Native.Nat.{ℕ, zero, suc, _+_, _*_, _/_, _%_, _≤_, _<_}
 use mathlib.Core.Path.{_≡_}
-use mathlib.Core.Bool.{Bool, true, false, not, cond}
-use mathlib.Core.List.{List, map}
+use mathlib.Core.Bool.{Bool, true, false, Bool·beq, cond}
+use mathlib.Core.List.{List, [], _∷_, map}
 use lib.Dec.{T, eqb, ltb}
 use lib.ListN.{length, getD}
-use lib.Ieee.{Float}
-use Rattle.base.specs.Lists.{any, collect, bit}
-use Rattle.base.specs.Grid.{Place, Axis, X, Y, Z, axisOf, along, move, octants}
-use Rattle.rules.specs.Survey.{cell, cellsOf, cornersOf, wetAt, Survey}
-use Rattle.rules.specs.Edges.{odd, pointOf}
-use Rattle.rules.specs.Steps.{Side, upperSide, lowerSide, Face, face, faceCorner, faceEdge, Step, sideLow, splitAcross, smallFaces, faceSteps}
-use Rattle.rules.specs.Outputs.{accepted, surveyOf}
-use Rattle.records.specs.Keys.{placesOf}
-use Rattle.cells.specs.Laid.{octantKey, cellAt}
-use Rattle.octants.specs.Octants.{Octants}
-use Rattle.edges.specs.Tables.{placeAt, Wets, Lowest, Far, Numbers}
-use Rattle.faces.specs.Descent.{placeWith}
-use Rattle.faces.specs.Patterns.{stepFrom, patternOf, stepTo}
-use Rattle.faces.specs.declared.Facet.{Facet}
+use Rattle.base.specs.Lists.{collect, count, position}
+use Rattle.base.specs.Grid.{origin, move, axes, same}
+use Rattle.rules.specs.Survey.{Cell, cell, size, cellCorners, entry, entries}
+use Rattle.rules.specs.Edges.{sameEdge}
+use Rattle.rules.specs.Steps.{Side, Face, face, faceCorner, faceEdge, Step}
+use Rattle.rules.specs.Outputs.{entriesRight}
+use Rattle.rules.specs.Closing.{cellEdgesOn}
+use Rattle.trace.specs.Trace.{meets}
+use Rattle.across.specs.Across.{sideNumber}
+use Rattle.faces.specs.Patterns.{wetDigit, stepFrom, patternOf, stepTo}
 
--- the upper or the lower side on the axis with a number
-abbrev pub sideAt : ℕ → Bool → Side
-sideAt n true = upperSide (axisOf n)
-sideAt n false = lowerSide (axisOf n)
+-- the side of a leaf that a row is on
+abbrev pub rowSide : ℕ → Side
+rowSide r = sideNumber (r % 6)
 
-abbrev pub facet : ℕ → Bool → ℕ → ℕ → ℕ → ℕ → Facet
-facet axis upper key level cell low = record { axis = axis; upper = upper; key = key; level = level; cell = cell; low = low }
+-- whether the row is the upper side of its cell: the cell across shows the leaf its opposite side
+abbrev pub rowUpper : ℕ → Bool
+rowUpper r = Bool·beq (rowSide r .upper) (ltb r 6)
 
--- the side that a facet is on, and the facet as a face
-abbrev pub sideOf : Facet → Side
-sideOf f = sideAt (f .axis) (f .upper)
+-- the upper or the lower side of a cell on the axis of a side
+abbrev pub faceOn : Side → Bool → Cell → Face
+faceOn side upper c = face (cond upper (move (side .across) (size c) (c .low)) (c .low)) (c .level)
 
-abbrev pub faceOf : Facet → Face
-faceOf f = face (placeWith (f .key)) (f .level)
+-- The numbers of its corners among the eight of the cell, and of its edges among the twelve: counted on the unit cell.
+abbrev pub unit : Cell
+unit = cell origin 0 false
 
--- how much the upper half of an axis adds to the number of a child, or of a corner, of a cell
-abbrev pub octantBit : Axis → ℕ
-octantBit X = 1
-octantBit Y = 2
-octantBit Z = 4
+unfoldable pub cornerOn : Side → Bool → ℕ → ℕ
+cornerOn side upper j = position (same (faceCorner side (faceOn side upper unit) j)) 0 (cellCorners unit)
 
--- the number of the lowest corner, or child, on the upper or the lower side of a cell
-abbrev pub sideBit : ℕ → Bool → ℕ
-sideBit n upper = cond upper (octantBit (axisOf n)) 0
+unfoldable pub edgeOn : Side → Bool → ℕ → ℕ
+edgeOn side upper j = position (sameEdge (faceEdge side (faceOn side upper unit) j)) 0 (collect (cellEdgesOn unit) axes)
 
--- a facet is in the box
-pub record Room (f : Facet) : Type 0 where
-  pub axis-less : f .axis < 3
-  pub level-less : f .level ≤ 10
-  pub boxed : (a : Axis) → along a (placeWith (f .key)) ≤ 1024
+abbrev pub rowCorner : ℕ → ℕ → ℕ
+rowCorner r j = cornerOn (rowSide r) (rowUpper r) j
 
--- a facet is a side of the cell of its record, the upper one where `far` says so
-pub record Faced (tc : List ℕ) (f : Facet) : Type 0 where
-  pub axis-less : f .axis < 3
-  pub inside : f .cell < length tc / 4
-  pub level-is : cellAt tc (f .cell) .level ≡ f .level
-  pub far : Bool
-  pub bit-is : f .low ≡ sideBit (f .axis) far
-  pub place-is : placeWith (f .key) ≡ cond far (move (axisOf (f .axis)) (2 ^ f .level) (cellAt tc (f .cell) .low)) (cellAt tc (f .cell) .low)
+abbrev pub rowEdge : ℕ → ℕ → ℕ
+rowEdge r j = edgeOn (rowSide r) (rowUpper r) j
 
--- the cell of a facet's record lies across the leaf's upper or lower side, and its side towards the leaf is the facet
-pub record Across (tc : List ℕ) (f : Facet) : Type 0 where
-  pub axis-less : f .axis < 3
-  pub inside : f .cell < length tc / 4
-  pub level-is : cellAt tc (f .cell) .level ≡ f .level
-  pub bit-is : f .low ≡ sideBit (f .axis) (not (f .upper))
-  pub low-is : placeWith (f .key) ≡ cond (f .upper) (cellAt tc (f .cell) .low) (move (axisOf (f .axis)) (2 ^ f .level) (cellAt tc (f .cell) .low))
-
--- f is a side of the cell of a level at the place with a key, as the upper or the lower side of the cell of record n
-pub record SideFacet (axis : ℕ) (upper : Bool) (key level n : ℕ) (far : Bool) (f : Facet) : Type 0 where
-  pub side : ℕ
-  pub placed : placeWith side ≡ sideLow (sideAt axis upper) (cell (placeWith key) level false)
-  pub made : f ≡ facet axis upper side level n (sideBit axis far)
-
--- what is found across a side of the cell of a level at the place with a key: the record of the split cell of that size, or no record, where
--- there is none
-pub record FoundAcross (tc : List ℕ) (axis : ℕ) (upper : Bool) (key level n : ℕ) : Type 0 where
-  pub split : n < length tc / 4 → (f : Facet) → SideFacet axis upper key level n (not upper) f → Across tc f
-  pub whole : length tc / 4 ≤ n →
-      any (splitAcross (sideAt axis upper) (sideLow (sideAt axis upper) (cell (placeWith key) level false)) level) (cellsOf tc) ≡ false
-
--- the tables in which the corners and points of faces are looked up
-pub record Tables (tc tk : List ℕ) (clearance : Float) (wets lowest far numbers octants : List ℕ) : Type 0 where
-  pub passed : accepted tc tk clearance ≡ true
-  pub wet : Wets tk clearance wets
-  pub low : Lowest tc tk lowest
-  pub end : Far tc tk far
-  pub number : Numbers (surveyOf tc tk clearance) numbers
-  pub octant : Octants tc tk octants
-
--- the tables of corners alone
-pub record Marked (tc tk : List ℕ) (clearance : Float) (wets octants : List ℕ) : Type 0 where
-  pub passed : accepted tc tk clearance ≡ true
-  pub wet : Wets tk clearance wets
-  pub octant : Octants tc tk octants
-
--- the cell of record n is that of a level at the place with a key
-pub record LeafAt (tc : List ℕ) (n key level : ℕ) : Type 0 where
-  pub inside : n < length tc / 4
-  pub level-is : cellAt tc n .level ≡ level
-  pub low-is : cellAt tc n .low ≡ placeWith key
-
--- k is the number of the corner record at corner j of a facet
-abbrev pub FacetCorner : List ℕ → Facet → ℕ → ℕ → Type 0
-FacetCorner tk f j k = (k < length tk / 10) × (placeAt (placesOf tk) k ≡ faceCorner (sideOf f) (faceOf f) j)
-
--- the wet marks of the eight corners of a cube, 1 or 0
-unfoldable pub cornerMarks : List ℕ → Float → ℕ → ℕ → List ℕ
-cornerMarks tk clearance key level = map (λ p. bit (wetAt (cornersOf tk) clearance p)) (octants (2 ^ level) (placeWith key))
-
--- the steps in the small faces of a face
-unfoldable pub smallSteps : Survey → Side → Place → ℕ → List Step
-unfolding smallFaces faceSteps
-smallSteps s side p l = collect (faceSteps s side) (smallFaces (s .cells) side p l)
-
--- and of a facet
-abbrev pub facetSteps : Survey → Facet → List Step
-facetSteps s f = smallSteps s (sideOf f) (placeWith (f .key)) (f .level)
-
--- the steps on the side of the cell of a level at a place
-abbrev pub sideSteps : Survey → Side → Place → ℕ → List Step
-sideSteps s side p l = smallSteps s side (sideLow side (cell p l false)) l
-
--- side i of a leaf, in the order of the rules
-abbrev pub sideNumber : ℕ → Side
-sideNumber i = sideAt (i / 2) (eqb (i % 2) 0)
-
--- edge i of a facet is odd
-abbrev pub OddAt : List ℕ → Float → Facet → ℕ → Type 0
-OddAt tk clearance f i =
-    let e = faceEdge (sideOf f) (faceOf f) i in
-    T (odd (wetAt (cornersOf tk) clearance) (e .axis) (e .low) (f .level))
-
--- how much quarter i of a side adds to the number of a child, or of a corner: the quarters go right, then up
-abbrev pub quarterBit : Side → ℕ → ℕ
-quarterBit s zero = 0
-quarterBit s (suc zero) = octantBit (s .right)
-quarterBit s (suc (suc zero)) = octantBit (s .up)
-quarterBit s (suc (suc (suc i))) = octantBit (s .right) + octantBit (s .up)
-
--- the quarter at corner j of a face: the corners go round
-abbrev pub cornerQuarter : ℕ → ℕ
-cornerQuarter j = cond (ltb j 2) j (5 - j)
-
--- quarter i of a facet: a side of the child, of the facet's cell, that has the number of the cell's corner there; the first child is in record n
-unfoldable pub quarterOf : Facet → ℕ → ℕ → Facet
-quarterOf f n i =
-    let b = quarterBit (sideOf f) i in
-    facet (f .axis) (f .upper) (f .key + octantKey b (2 ^ (f .level - 1))) (f .level - 1) (n + (f .low + b)) (f .low)
-
--- the wet pattern of the side of a cell, from the marks of its eight corners
-unfoldable pub ownPattern : List ℕ → ℕ → Bool → ℕ
-ownPattern wet n upper =
-    let low = sideBit n upper in
-    let right = octantBit (sideAt n upper .right) in
-    let up = octantBit (sideAt n upper .up) in
-    let mark : ℕ → ℕ = λ i. bit (eqb (getD wet i 0) 1) in
-    mark low + 2 * mark (low + right) + 4 * mark (low + right + up) + 8 * mark (low + up)
-
--- the wet pattern of a face
-unfoldable pub facePattern : Survey → Side → Face → ℕ
-facePattern s side f =
-    let w : ℕ → Bool = λ i. s .isWet (faceCorner side f i) in
+-- the wet pattern of a row of record m
+unfoldable pub rowPattern : List ℕ → ℕ → ℕ → ℕ
+unfolding cornerOn
+rowPattern crossings r m =
+    let w : ℕ → Bool = λ j. wetDigit (getD crossings (13 * m + 12) 0) (rowCorner r j) in
     patternOf (w 0) (w 1) (w 2) (w 3)
 
--- a number is the wet pattern of a facet
-abbrev pub Patterned : Survey → Facet → ℕ → Type 0
-Patterned s f pattern = (pattern < 16) × (pattern ≡ facePattern s (sideOf f) (faceOf f))
+-- the step, if there is one, that enters a row of record m by edge j, where the row has a pattern
+unfoldable pub edgeSteps : List ℕ → ℕ → ℕ → ℕ → ℕ → List Step
+unfolding edgeOn stepFrom
+edgeSteps crossings r m pattern j =
+    let point : ℕ → ℕ = λ i. getD crossings (13 * m + rowEdge r i) 0 in
+    map (λ t. (point (t .0), point (t .1))) (stepTo j (stepFrom pattern j))
 
--- a step in a face from edge to edge, as a step from point to point
-abbrev pub pointStep : Survey → Side → Face → Step → Step
-pointStep s side f t = (pointOf s (faceEdge side f (t .0)), pointOf s (faceEdge side f (t .1)))
+-- the steps in a row of record m
+unfoldable pub rowSteps : List ℕ → ℕ → ℕ → List Step
+unfolding rowPattern edgeSteps
+rowSteps crossings r m = collect (edgeSteps crossings r m (rowPattern crossings r m)) (count 0 4)
 
--- the step, if there is one, that enters a face of a pattern by edge i
-unfoldable pub rowSteps : Survey → Side → Face → ℕ → ℕ → List Step
-unfolding stepFrom pointOf
-rowSteps s side f pattern i = map (pointStep s side f) (stepTo i (stepFrom pattern i))
+-- the corners at the quarters of a face, in the order of the rules' small faces
+abbrev pub quarters : List ℕ
+quarters = 0 ∷ 1 ∷ 3 ∷ 2 ∷ []
+
+-- The steps in the small faces of a row of record m: of a split record, those in the children at the quarters; k bounds how far down.
+unfoldable pub smallStepsWithin : ℕ → List ℕ → List ℕ → ℕ → ℕ → List Step
+unfolding rowSteps cornerOn
+smallStepsWithin zero tc crossings r m = []
+smallStepsWithin (suc k) tc crossings r m =
+    let small = collect (λ j. smallStepsWithin k tc crossings r (entry tc m + rowCorner r j)) quarters in
+    cond (eqb (entry tc m) 0) (rowSteps crossings r m) small
+
+-- records rise on the way down, so it ends before their number is used up
+unfoldable pub smallTableSteps : List ℕ → List ℕ → ℕ → ℕ → List Step
+unfolding smallStepsWithin
+smallTableSteps tc crossings r m = smallStepsWithin (length tc / 4) tc crossings r m
+
+-- the steps on side i of the leaf of record n
+unfoldable pub sideTableSteps : List ℕ → List ℕ → List ℕ → ℕ → ℕ → List Step
+unfolding rowSteps smallTableSteps
+sideTableSteps tc across crossings n i =
+    let m = getD across (6 * n + i) 0 in
+    let small = smallTableSteps tc crossings (6 + i) m in
+    cond (eqb m 0) (rowSteps crossings i n) small
+
+-- the face steps of the leaf of record n
+unfoldable pub leafTableSteps : List ℕ → List ℕ → List ℕ → ℕ → List Step
+unfolding sideTableSteps
+leafTableSteps tc across crossings n = collect (sideTableSteps tc across crossings n) (count 0 6)
+
+-- ---- what the tables must have so that all is read and written inside them
+
+-- the points that steps meet have their place in a trace of this length
+pub record Fits (ss : List Step) (room : ℕ) : Type 0 where
+  pub small : room ≤ 43849
+  pub inside : (v : ℕ) → meets ss v ≡ true → 3 * v + 2 < room
+
+-- the cell table passes check 3, and the table of crossings has room for its records
+pub record Roomy (tc crossings : List ℕ) : Type 0 where
+  pub entries-right : T (entriesRight 0 0 (entries tc))
+  pub room : 13 * (length tc / 4) ≤ length crossings
+
+-- so has the table of cells across, for record n, and it names records
+pub record Reaching (tc across : List ℕ) (n : ℕ) : Type 0 where
+  pub inside : n < length tc / 4
+  pub room : 6 * (length tc / 4) ≤ length across
+  pub named : (i : ℕ) → i < 6 → getD across (6 * n + i) 0 < length tc / 4

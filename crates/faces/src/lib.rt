@@ -1,39 +1,13 @@
-// The small faces on the sides of a leaf and the steps in them, recorded as the leaf's trace.
-// Uses records, cells, edges and trace.
+// The face steps of a leaf: small faces by going down into the cell across, and the steps in each, recorded in the leaf's trace.
+// Uses digits, records and trace, and the tables that across and crossings describe.
 ghost use mathlib.Core.Path.{_≡_};
-ghost use mathlib.Core.Bool.{true};
-ghost use mathlib.Core.List.{map};
-ghost use Prim.Native.Nat.{_/_, _≤_, _<_};
-ghost use lib.ListN.{length};
+ghost use Prim.Native.Nat.{_+_, _*_, _/_, _≤_, _<_};
+ghost use lib.ListN.{length, getD};
 ghost use Rattle.base.specs.Lists.{bit};
-ghost use Rattle.rules.specs.Survey.{cornersOf, leafOf, wet};
-ghost use Rattle.rules.specs.Steps.{leafSteps};
-ghost use Rattle.rules.specs.Outputs.{accepted, surveyOf};
-ghost use Rattle.cells.specs.Laid.{Laid, cellAt};
-ghost use Rattle.octants.specs.Octants.{Octants};
-ghost use Rattle.trace.specs.Trace.{trace, Sized, Recorded};
-ghost use Rattle.faces.specs.Patterns.{stepFrom};
-ghost use Rattle.faces.specs.Descent.{placeWith, recordOf, Grown};
-ghost use Rattle.faces.specs.Faces.{Tables};
-use rules::Leaf;
-
-mod corners;
-mod descend;
-mod facets;
-mod patterns;
-mod recording;
-mod sides;
-
-// A face on a side of a leaf, the whole side or a part of it: the axis and the end of the side, the key of the lowest corner, and the level;
-// the record of a cell of which it is a side, and the number of its lowest corner among that cell's eight.
-pub struct Facet {
-    pub axis: u32,
-    pub upper: bool,
-    pub key: u64,
-    pub level: u8,
-    pub cell: usize,
-    pub low: usize,
-}
+ghost use Rattle.trace.specs.Trace.{recorded};
+ghost use Rattle.faces.specs.Patterns.{rowDigit, wetDigit, stepFrom, firstEntry};
+ghost use Rattle.faces.specs.Faces.{rowCorner, rowEdge, rowPattern, edgeSteps, rowSteps, quarters, smallTableSteps, sideTableSteps};
+ghost use Rattle.faces.specs.Faces.{leafTableSteps, Fits, Roomy, Reaching};
 
 // For each of the sixteen wet patterns of a face (bit i: corner i is wet; corners go counter-clockwise, seen from outside the leaf), the edge to
 // which the step that enters by edge i goes; 4 where none enters. Edge i joins corner i and corner i + 1.
@@ -64,103 +38,180 @@ pub fn step_from(pattern: usize, edge: usize) -> u8
     STEPS[pattern][edge]
 }
 
-// The record of the cell of a level at the place with a key; the number of records where there is none.
-pub fn record_of(cells: &[u8], level: u8, key: u64) -> usize
-    requires { ⌜ Grown (now cells) ⌝ }
-    requires { ⌜ level ≤ 10 ⌝ }
-    ensures { λ r. ⌜ r ≡ recordOf (now (cells .entry)) level (placeWith key) ⌝ }
+// A byte as an index.
+fn wide(x: u8) -> usize
+    ensures { λ r. ⌜ r ≡ x ⌝ }
 {
-    if descend::is_outside(key) {
-        return cells.len() / 4;
+    x as usize
+}
+
+// Digit j of a row, where twelve rows of four digits are kept in three numbers, the first digit lowest: rows 0 to 3 in a, 4 to 7 in b, 8 to 11 in c.
+fn row_digit(row: usize, j: usize, a: usize, b: usize, c: usize) -> usize
+    requires { ⌜ (row < 12) × (j < 4) ⌝ }
+    ensures { λ r. ⌜ r ≡ rowDigit row j a b c ⌝ }
+{
+    if row < 4 {
+        return digits::digit(a, 4 * row + j);
     }
-    descend::go_down(cells, level, key)
+    if row < 8 {
+        return digits::digit(b, 4 * (row - 4) + j);
+    }
+    digits::digit(c, 4 * (row - 8) + j)
 }
 
-// Takes up the leaf of record `n` with its eight corners side by side.
-pub fn leaf_at(cells: &[u8], corners: &[u8], clearance: f32, octants: &[u16], n: usize) -> Leaf
-    requires { ⌜ accepted (now cells) (now corners) clearance ≡ true ⌝ }
-    requires { ⌜ Octants (now cells) (now corners) (now octants) ⌝ }
-    requires { ⌜ n < length (now cells) / 4 ⌝ }
-    ensures { λ r. ⌜ r ≡ leafOf (cornersOf (now (corners .entry))) (cellAt (now (cells .entry)) n) ⌝ }
+// The number of corner j of a row among the eight of its cell: rows 0 to 5 are a leaf's own sides, rows 6 to 11 the sides towards it of the cells across.
+fn row_corner(row: usize, j: usize) -> usize
+    requires { ⌜ (row < 12) × (j < 4) ⌝ }
+    ensures { λ r. ⌜ (r ≡ rowCorner row j) × (r < 8) ⌝ }
 {
-    Leaf {
-        corners: [
-            corners::octant_corner(cells, corners, clearance, octants, n, 0),
-            corners::octant_corner(cells, corners, clearance, octants, n, 1),
-            corners::octant_corner(cells, corners, clearance, octants, n, 2),
-            corners::octant_corner(cells, corners, clearance, octants, n, 3),
-            corners::octant_corner(cells, corners, clearance, octants, n, 4),
-            corners::octant_corner(cells, corners, clearance, octants, n, 5),
-            corners::octant_corner(cells, corners, clearance, octants, n, 6),
-            corners::octant_corner(cells, corners, clearance, octants, n, 7),
-        ],
+    row_digit(
+        row,
+        j,
+        0x4510_3762_2640_5731,
+        0x3751_4620_1320_6754,
+        0x5764_2310_6732_1540,
+    )
+}
+
+// The number of edge j of a row among the twelve of its cell.
+fn row_edge(row: usize, j: usize) -> usize
+    requires { ⌜ (row < 12) × (j < 4) ⌝ }
+    ensures { λ r. ⌜ (r ≡ rowEdge row j) × (r < 12) ⌝ }
+{
+    row_digit(
+        row,
+        j,
+        0x8290_1b3a_4a58_97b6,
+        0x6b79_85a4_0614_5372,
+        0x2735_4160_a3b1_0928,
+    )
+}
+
+// The corner of a face at which quarter i is, in the order of small faces.
+fn quarter(i: usize) -> usize
+    requires { ⌜ i < 4 ⌝ }
+    ensures { λ r. ⌜ (r ≡ getD quarters i 0) × (r < 4) ⌝ }
+{
+    digits::digit(0x2310, i)
+}
+
+// 1 if corner j of a row is wet by the mask of its cell's wet corners, else 0.
+fn row_mark(mask: u16, row: usize, j: usize) -> usize
+    requires { ⌜ (row < 12) × (j < 4) ⌝ }
+    ensures { λ r. ⌜ (r ≡ bit (wetDigit mask (rowCorner row j))) × (r ≤ 1) ⌝ }
+{
+    (trace::wide(mask) >> row_corner(row, j)) % 2
+}
+
+// The wet pattern of a row of record m.
+fn row_pattern(crossings: &[u16], row: usize, m: usize) -> usize
+    requires { ⌜ (row < 12) × (13 * m + 13 ≤ length (now crossings)) ⌝ }
+    ensures { λ r. ⌜ (r ≡ rowPattern (now (crossings .entry)) row m) × (r < 16) ⌝ }
+{
+    let mask = crossings[13 * m + 12];
+    row_mark(mask, row, 0)
+        + 2 * row_mark(mask, row, 1)
+        + 4 * row_mark(mask, row, 2)
+        + 8 * row_mark(mask, row, 3)
+}
+
+// Records the step, if there is one, that enters a row of record m by edge j.
+fn edge_step(crossings: &[u16], trace: &mut [u16], row: usize, m: usize, pattern: usize, j: usize)
+    requires { ⌜ (row < 12) × (13 * m + 13 ≤ length (now crossings)) ⌝ }
+    requires { ⌜ (pattern < 16) × (j < 4) ⌝ }
+    requires { ⌜ Fits (edgeSteps (now crossings) row m pattern j) (length (now trace)) ⌝ }
+    ensures { λ _. ⌜ now (trace .exit) ≡ recorded (edgeSteps (now (crossings .entry)) row m pattern j) (now (trace .entry)) ⌝ }
+{
+    let k = wide(step_from(pattern, j));
+    if k >= 4 {
+        return;
+    }
+    let from = crossings[13 * m + row_edge(row, j)];
+    let to = crossings[13 * m + row_edge(row, k)];
+    trace::record_step(trace, from, to);
+}
+
+// The first edge by which a step enters in a pattern; 4 where none enters.
+fn first_entry(pattern: usize) -> usize
+    requires { ⌜ pattern < 16 ⌝ }
+    ensures { λ r. ⌜ r ≡ firstEntry pattern ⌝ }
+{
+    digits::digit(0x4011_2022_3011_3034, pattern)
+}
+
+// Records the steps in a row of record m. None enters where all corners are wet or all are dry; else one enters by the first edge from a dry corner to a
+// wet one, and where opposite corners are wet, in patterns 5 and 10, another by the edge two further on.
+fn row_steps(crossings: &[u16], trace: &mut [u16], row: usize, m: usize)
+    requires { ⌜ (row < 12) × (13 * m + 13 ≤ length (now crossings)) ⌝ }
+    requires { ⌜ Fits (rowSteps (now crossings) row m) (length (now trace)) ⌝ }
+    ensures { λ _. ⌜ now (trace .exit) ≡ recorded (rowSteps (now (crossings .entry)) row m) (now (trace .entry)) ⌝ }
+{
+    let pattern = row_pattern(crossings, row, m);
+    if pattern % 15 == 0 {
+        return;
+    }
+    let j = first_entry(pattern);
+    edge_step(crossings, trace, row, m, pattern, j);
+    if pattern % 5 == 0 {
+        edge_step(crossings, trace, row, m, pattern, j + 2);
     }
 }
 
-// The wet marks of a leaf's eight corners.
-pub fn leaf_marks(leaf: Leaf, clearance: f32) -> [u8; 8]
-    requires { ⌜ length (leaf .corners) ≡ 8 ⌝ }
-    ensures { λ r. ⌜ r ≡ map (λ c. bit (wet clearance c)) (leaf .corners) ⌝ }
+// Records the steps in the small faces of a row of record m: where it is split, quarter after quarter.
+fn small_steps(cells: &[u8], crossings: &[u16], trace: &mut [u16], row: usize, m: usize)
+    requires { ⌜ Roomy (now cells) (now crossings) ⌝ }
+    requires { ⌜ (row < 12) × (m < length (now cells) / 4) ⌝ }
+    requires { ⌜ Fits (smallTableSteps (now cells) (now crossings) row m) (length (now trace)) ⌝ }
+    ensures { λ _. ⌜ now (trace .exit) ≡ recorded (smallTableSteps (now (cells .entry)) (now (crossings .entry)) row m) (now (trace .entry)) ⌝ }
 {
-    [
-        corners::mark(leaf.corners[0], clearance),
-        corners::mark(leaf.corners[1], clearance),
-        corners::mark(leaf.corners[2], clearance),
-        corners::mark(leaf.corners[3], clearance),
-        corners::mark(leaf.corners[4], clearance),
-        corners::mark(leaf.corners[5], clearance),
-        corners::mark(leaf.corners[6], clearance),
-        corners::mark(leaf.corners[7], clearance),
-    ]
+    let first = records::cell_entry(cells, m) as usize;
+    if first == 0 {
+        row_steps(crossings, trace, row, m);
+        return;
+    }
+    let mut i: usize = 0;
+    while i < 4 {
+        let child = first + row_corner(row, quarter(i));
+        small_steps(cells, crossings, trace, row, child);
+        i += 1;
+    }
 }
 
-// Records the face steps of the leaf of record `n`, side after side.
-pub fn leaf_steps(
+// Records the steps on side i of the leaf of record n: in the small faces of the split cell across, or in its own side.
+fn side_steps(
     cells: &[u8],
-    corners: &[u8],
-    clearance: f32,
-    wets: &[u8],
-    lowest: &[u8],
-    far: &[u16],
-    numbers: &[u16],
-    keys: &[u64],
-    levels: &[u8],
-    octants: &[u16],
-    nexts: &mut [u16],
-    marks: &mut [u8],
-    blocks: &mut [u8],
+    across: &[u16],
+    crossings: &[u16],
+    trace: &mut [u16],
     n: usize,
+    i: usize,
 )
-    requires { ⌜ Tables (now cells) (now corners) clearance (now wets) (now lowest) (now far) (now numbers) (now octants) ⌝ }
-    requires { ⌜ Sized (trace (now nexts) (now marks) (now blocks)) ⌝ }
-    requires { ⌜ Laid (now cells) (now keys) (now levels) ⌝ }
-    requires { ⌜ (n < length (now cells) / 4) × (n < length (now keys)) × (n < length (now levels)) ⌝ }
-    ensures { λ _. ⌜ Recorded (leafSteps (surveyOf (now (cells .entry)) (now (corners .entry)) clearance) (cellAt (now (cells .entry)) n))
-        (trace (now (nexts .entry)) (now (marks .entry)) (now (blocks .entry))) (trace (now (nexts .exit)) (now (marks .exit)) (now (blocks .exit))) ⌝ }
+    requires { ⌜ Roomy (now cells) (now crossings) ⌝ }
+    requires { ⌜ Reaching (now cells) (now across) n ⌝ }
+    requires { ⌜ i < 6 ⌝ }
+    requires { ⌜ Fits (sideTableSteps (now cells) (now across) (now crossings) n i) (length (now trace)) ⌝ }
+    ensures { λ _. ⌜ now (trace .exit)
+        ≡ recorded (sideTableSteps (now (cells .entry)) (now (across .entry)) (now (crossings .entry)) n i) (now (trace .entry)) ⌝ }
 {
-    let key = keys[n];
-    let level = levels[n];
-    let wet = leaf_marks(leaf_at(cells, corners, clearance, octants, n), clearance);
-    let mut i: u32 = 0;
+    let beyond = trace::wide(across[6 * n + i]);
+    if beyond == 0 {
+        row_steps(crossings, trace, i, n);
+        return;
+    }
+    small_steps(cells, crossings, trace, 6 + i, beyond);
+}
+
+// Records the face steps of the leaf of record n, side after side.
+pub fn leaf_steps(cells: &[u8], across: &[u16], crossings: &[u16], trace: &mut [u16], n: usize)
+    requires { ⌜ Roomy (now cells) (now crossings) ⌝ }
+    requires { ⌜ Reaching (now cells) (now across) n ⌝ }
+    requires { ⌜ Fits (leafTableSteps (now cells) (now across) (now crossings) n) (length (now trace)) ⌝ }
+    ensures { λ _. ⌜ now (trace .exit)
+        ≡ recorded (leafTableSteps (now (cells .entry)) (now (across .entry)) (now (crossings .entry)) n) (now (trace .entry)) ⌝ }
+{
+    let mut i: usize = 0;
     while i < 6 {
-        recording::side_steps(
-            cells,
-            corners,
-            clearance,
-            wets,
-            lowest,
-            far,
-            numbers,
-            octants,
-            nexts,
-            marks,
-            blocks,
-            n,
-            key,
-            level,
-            wet,
-            i,
-        );
+        side_steps(cells, across, crossings, trace, n, i);
         i += 1;
     }
 }

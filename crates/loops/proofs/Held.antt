@@ -1,44 +1,43 @@
--- What the tables hold of a leaf: where they lead, and what is left when a point is taken out.
+-- What the trace holds of a leaf: where it leads, and what is left when a point is taken out.
 --     leads-twin, leads-step      the two answers of a walk's next step
---     leads-onward                where the tables hold the step from a point, they lead where the rules do
+--     leads-onward                where the trace holds the step from a point, it leads where the rules do
 --     held-less                   a point taken out
 -- Assumes nothing.
 use mathlib.Core.Path.{_≡_, refl, sym, ap, _∙_}
 use mathlib.Core.Logic.{inl, inr}
 use mathlib.Core.Bool.{Bool, true, false, not, _&&_, cond}
 use mathlib.Core.List.{List}
-use Prim.Native.Nat.{ℕ, _<_}
+use Prim.Native.Nat.{ℕ, _+_, _*_, _<_}
 use native.Mathlib.Omega.{arith}
 use native.Mathlib.Decide.{ℕ-discrete}
 use lib.Dec.{eqb}
 use lib.ListN.{getD, set, length-set}
 use lib.Seq.{getD-set-same, getD-set-other}
 use borrow.Author.Tests.{eq-eqb, ne-eqb}
-use Rattle.base.specs.Lists.{bit}
 use Rattle.rules.specs.Steps.{Step, onward}
-use Rattle.trace.specs.Trace.{endFrom}
+use Rattle.trace.specs.Trace.{nextAt, markAt, metCount, markOf, endFrom}
 use Rattle.trace.proofs.Laws.{Within, Leaving, left-or-not}
-use Rattle.loops.specs.Sweep.{leads, Held}
+use Rattle.loops.specs.Sweep.{leads, clearAt, Held}
 
 -- ---- one step of a walk
 
-module _ (nexts twins : List ℕ) (at v : ℕ) (e : at ≡ v) where
-  pub leads-twin : getD nexts at 0 ≡ 65535 → getD twins at 0 ≡ leads nexts twins v
-  leads-twin h = rw (← e, eq-eqb (getD nexts at 0) 65535 h)
+module _ (t twins : List ℕ) (at v : ℕ) (e : at ≡ v) where
+  pub leads-twin : nextAt t at ≡ 65535 → getD twins at 0 ≡ leads t twins v
+  leads-twin h = rw (← e, eq-eqb (nextAt t at) 65535 h)
 
-  pub leads-step : (getD nexts at 0 ≡ 65535 → ⊥) → getD nexts at 0 ≡ leads nexts twins v
-  leads-step h = rw (← e, ne-eqb (getD nexts at 0) 65535 h)
+  pub leads-step : (nextAt t at ≡ 65535 → ⊥) → nextAt t at ≡ leads t twins v
+  leads-step h = rw (← e, ne-eqb (nextAt t at) 65535 h)
 
--- the tables hold the step from v, and its twin
-pub leads-onward : (ss : List Step) (twin : ℕ → ℕ) (nexts twins : List ℕ) (v : ℕ) → Within ss → getD nexts v 0 ≡ endFrom ss v → getD twins v 0 ≡ twin v
-    → leads nexts twins v ≡ onward ss twin v
-leads-onward ss twin nexts twins v w n t = go (left-or-not ss v w)
+-- the trace holds the step from v, and the table its twin
+pub leads-onward : (ss : List Step) (twin : ℕ → ℕ) (t twins : List ℕ) (v : ℕ) → Within 65535 ss → nextAt t v ≡ endFrom ss v → getD twins v 0 ≡ twin v
+    → leads t twins v ≡ onward ss twin v
+leads-onward ss twin t twins v w n p = go (left-or-not 65535 ss v w)
   where
-    go : Leaving ss v → leads nexts twins v ≡ onward ss twin v
-    go (inl s) = rw (ne-eqb (getD nexts v 0) 65535 (λ e. omega (arith, s .1))) (n ∙ sym (s .0 (v, twin v)))
+    go : Leaving 65535 ss v → leads t twins v ≡ onward ss twin v
+    go (inl s) = rw (ne-eqb (nextAt t v) 65535 (λ e. omega (arith, s .1))) (n ∙ sym (s .0 (v, twin v)))
     go (inr s) =
-        let none : getD nexts v 0 ≡ 65535 = n ∙ ap (λ (t : Step). t .1) (s (v, 65535)) in
-        rw (eq-eqb (getD nexts v 0) 65535 none) (t ∙ ap (λ (t : Step). t .1) (sym (s (v, twin v))))
+        let none : nextAt t v ≡ 65535 = n ∙ ap (λ (t : Step). t .1) (s (v, 65535)) in
+        rw (eq-eqb (nextAt t v) 65535 none) (p ∙ ap (λ (t : Step). t .1) (sym (s (v, twin v))))
 
 -- ---- a point taken out
 
@@ -60,19 +59,41 @@ less-other rest u x d = rw (ne-eqb x u d) (go (rest x))
     go true = refl
     go false = refl
 
-pub held-less : (ss : List Step) (rest : ℕ → Bool) (nexts marks : List ℕ) (u : ℕ) → u < 14616 → Held ss rest nexts marks
-    → Held ss (less rest u) (set nexts u 65535) (set marks u 0)
-held-less ss rest nexts marks u l h = record {
-  nextsLong = length-set nexts u 65535 ∙ h .nextsLong;
-  marksLong = length-set marks u 0 ∙ h .marksLong;
+left-of-both : (a b : Bool) → a && b ≡ true → a ≡ true
+left-of-both true b e = refl
+left-of-both false b e = e
+
+pub held-less : (limit : ℕ) (ss : List Step) (rest : ℕ → Bool) (t : List ℕ) (u : ℕ) → u < limit → Held limit ss rest t
+    → Held limit ss (less rest u) (clearAt t u)
+held-less limit ss rest t u l h = record {
+  room = length-set (set t (3 * u + 1) 65535) (3 * u + 2) 65535 ∙ length-set t (3 * u + 1) 65535 ∙ h .room;
+  small = h .small;
   next = λ v i. next v i (ℕ-discrete v u);
   mark = λ v i. mark v i (ℕ-discrete v u);
+  few = omega (arith, counts, h .few);
+  listed = λ v e.
+      let o = h .listed v (left-of-both (rest v) (not (eqb v u)) e) in
+      (o .0, omega (arith, counts, o .1), same (3 * o .0 + 3) (λ q. omega arith) (λ q. omega arith) ∙ o .2);
+  lists = λ i b. omega (arith, same (3 * i + 3) (λ q. omega arith) (λ q. omega arith), h .lists i (omega (arith, counts)));
 }
   where
-    next : (v : ℕ) → v < 14616 → Dec (v ≡ u) → getD (set nexts u 65535) v 0 ≡ cond (less rest u v) (endFrom ss v) 65535
-    next v i (yes e) = rw (e, less-same rest u) (getD-set-same nexts u 65535 0 (omega (arith, h .nextsLong)))
-    next v i (no d) = getD-set-other nexts u v 65535 0 d ∙ h .next v i ∙ ap (λ (b : Bool). cond b (endFrom ss v) 65535) (sym (less-other rest u v d))
+    same : (n : ℕ) → (n ≡ 3 * u + 1 → ⊥) → (n ≡ 3 * u + 2 → ⊥) → getD (clearAt t u) n 0 ≡ getD t n 0
+    same n p q = getD-set-other (set t (3 * u + 1) 65535) (3 * u + 2) n 65535 0 q ∙ getD-set-other t (3 * u + 1) n 65535 0 p
 
-    mark : (v : ℕ) → v < 14616 → Dec (v ≡ u) → getD (set marks u 0) v 0 ≡ bit (less rest u v)
-    mark v i (yes e) = rw (e, less-same rest u) (getD-set-same marks u 0 0 (omega (arith, h .marksLong)))
-    mark v i (no d) = getD-set-other marks u v 0 0 d ∙ h .mark v i ∙ ap bit (sym (less-other rest u v d))
+    counts : metCount (clearAt t u) ≡ metCount t
+    counts = same 0 (λ q. omega arith) (λ q. omega arith)
+
+    next : (v : ℕ) → v < limit → Dec (v ≡ u) → nextAt (clearAt t u) v ≡ cond (less rest u v) (endFrom ss v) 65535
+    next v i (yes e) =
+        rw (e, less-same rest u)
+        (getD-set-other (set t (3 * u + 1) 65535) (3 * u + 2) (3 * u + 1) 65535 0 (λ q. omega arith)
+        ∙ getD-set-same t (3 * u + 1) 65535 0 (omega (arith, h .room)))
+    next v i (no d) =
+        same (3 * v + 1) (λ q. d (omega arith)) (λ q. omega arith) ∙ h .next v i
+        ∙ ap (λ (b : Bool). cond b (endFrom ss v) 65535) (sym (less-other rest u v d))
+
+    mark : (v : ℕ) → v < limit → Dec (v ≡ u) → markAt (clearAt t u) v ≡ markOf (less rest u v)
+    mark v i (yes e) =
+        rw (e, less-same rest u)
+        (getD-set-same (set t (3 * u + 1) 65535) (3 * u + 2) 65535 0 (omega (arith, length-set t (3 * u + 1) 65535, h .room)))
+    mark v i (no d) = same (3 * v + 2) (λ q. omega arith) (λ q. d (omega arith)) ∙ h .mark v i ∙ ap markOf (sym (less-other rest u v d))

@@ -2,4 +2,4 @@ pub mod Slices
 pub mod Held
 pub mod Sweep
 pub mod Round
-pub mod Blocks
+pub mod Lowest

@@ -1,34 +1,34 @@
 -- One loop walked from its lowest point, each point taken out of the trace as it is left.
---     Going            the state after some steps: where the walk is, and what the tables still hold
+--     Going            the state after some steps: where the walk is, and what the trace still holds
 --     goes-off, goes-on, comes-round      the first step, one more, and the end of the walk
 --     walked           the loop's triangles are drawn and its points taken out: the point is passed
 -- Assumes nothing.
 use mathlib.Core.Path.{_≡_, refl, sym, ap, _∙_, subst}
-use mathlib.Core.Bool.{Bool, true, false, not, cond, false≢true}
+use mathlib.Core.Bool.{Bool, true, false, cond, false≢true}
 use mathlib.Core.List.{List, [], _∷_, _++_, map}
 use Prim.Native.Nat.{ℕ, zero, suc, _+_, _*_, _-_, _≤_, _<_}
 use native.Mathlib.Nat.{zero-add, suc-add}
 use native.Mathlib.Omega.{arith}
 use native.Mathlib.Decide.{ℕ-discrete, decLe}
 use lib.Dec.{leb}
-use lib.ListN.{length, getD, set}
+use lib.ListN.{length}
 use lib.Seq.{sets, length-sets}
 use borrow.Author.Tests.{le-leb}
-use Rattle.base.specs.Lists.{bit, all, sum, collect, often}
+use Rattle.base.specs.Lists.{all, sum, collect, often}
 use Rattle.base.proofs.Sums.{sum-keep, sum-map}
 use Rattle.base.proofs.Counts.{equal-eq, equal-ne, sum-sub}
 use Rattle.rules.specs.Steps.{Triangle, met, until, loop, lowestFirst, fanFrom, fan}
 use Rattle.rules.specs.Outputs.{numbers}
 use Rattle.closing.proofs.Walk.{far, trail, far-next, trail-has, Stops, comes-back}
 use Rattle.closing.proofs.Loops.{loops-once}
-use Rattle.trace.specs.Trace.{meets, endFrom}
+use Rattle.trace.specs.Trace.{nextAt, meets, endFrom}
 use Rattle.trace.proofs.Laws.{Within}
 use Rattle.loops.specs.Loops.{Leaf}
 use Rattle.loops.specs.declared.Walk.{Walk}
-use Rattle.loops.specs.Sweep.{Progress, progress, leads, Stepped, Held, after, Left, fans, Swept}
+use Rattle.loops.specs.Sweep.{Progress, progress, leads, clearAt, Stepped, Held, after, Left, fans, Swept, Ready}
 use Rattle.loops.proofs.Slices.{sets-append, length-numbers, numbers-append}
 use Rattle.loops.proofs.Held.{leads-onward, less, less-same, less-other, held-less}
-use Rattle.loops.proofs.Sweep.{in-points, fan-loop, until-few}
+use Rattle.loops.proofs.Sweep.{in-points, fan-loop, until-few, mark-rest}
 
 -- ---- two starts of one loop
 
@@ -74,18 +74,16 @@ module _ {twins : List ℕ} (l : Leaf twins) where
 -- ---- the walk
 
 -- a point from which the points below are passed, and that is marked
-pub record Start {twins : List ℕ} (l : Leaf twins) (v : ℕ) (s : Progress) : Type 0 where
-  pub left : Left l v s
+pub record Start {twins : List ℕ} (l : Leaf twins) (limit v : ℕ) (s : Progress) : Type 0 where
+  pub left : Left l limit v s
   pub on : left .rest v ≡ true
 
-pub marked : {twins : List ℕ} (l : Leaf twins) (v : ℕ) (s : Progress) → Left l v s → v < 14616 → getD (s .marks) v 0 ≡ 1 → Start l v s
-marked l v s h i e = record { left = h; on = go (h .rest v) (sym (h .held .mark v i) ∙ e) }
-  where
-    go : (b : Bool) → bit b ≡ 1 → b ≡ true
-    go true q = refl
-    go false q = absurd (omega arith)
+-- so says the mark, whatever leaf is left: its limit is told by the length of the trace
+pub marked : {twins : List ℕ} (l : Leaf twins) (limit v : ℕ) (s : Progress) → Left l limit v s → Ready twins v s → Start l limit v s
+marked l limit v s h r =
+    record { left = h; on = mark-rest l limit v v s h (omega (arith, h .held .room, r .left .held .room, r .inside)) (r .mark) }
 
-module _ {twins : List ℕ} (l : Leaf twins) (v : ℕ) (s : Progress) (h : Start l v s) where
+module _ {twins : List ℕ} (l : Leaf twins) (limit v : ℕ) (s : Progress) (h : Start l limit v s) where
   -- the point k steps on
   abbrev pub further : ℕ → ℕ
   further k = far (after l) k v
@@ -122,7 +120,7 @@ module _ {twins : List ℕ} (l : Leaf twins) (v : ℕ) (s : Progress) (h : Start
       let small : j - suc k < round .size = omega arith in
       round .before (j - suc k) small (sym (cancel k (suc (j - suc k)) (sym e ∙ ap further split)))
 
-  -- what is left in the tables when the first j points are taken out
+  -- what is left in the trace when the first j points are taken out
   pub rests : ℕ → ℕ → Bool
   rests zero = h .left .rest
   rests (suc j) = less (rests j) (further j)
@@ -159,64 +157,69 @@ module _ {twins : List ℕ} (l : Leaf twins) (v : ℕ) (s : Progress) (h : Start
       go (yes p) ih = (j, omega arith, p)
       go (no d) ih = let r = ih (sym (less-other (rests j) (further j) x d) ∙ f) in (r .0, omega arith, r .2)
 
-  -- ---- the tables on the walk
+  -- ---- the trace on the walk
 
   far-inside : (k : ℕ) → further k < l .points
   far-inside k = l .inside (further k) (h .left .met (further k) (rest-far k v (h .on)))
 
-  -- one step from the point after j others, and what the tables hold then
-  one-step : (j : ℕ) (nexts marks : List ℕ) → j ≤ round .size → Held (l .steps) (rests j) nexts marks
-      → (leads nexts twins (further j) ≡ further (suc j)) × Held (l .steps) (rests (suc j)) (set nexts (further j) 65535) (set marks (further j) 0)
+  far-below : (k : ℕ) → further k < limit
+  far-below k = let o = h .left .held .listed (further k) (rest-far k v (h .on)) in omega (arith, o .2, h .left .held .lists (o .0) (o .1))
+
+  -- one step from the point after j others, and what the trace holds then
+  one-step : (j : ℕ) (t : List ℕ) → j ≤ round .size → Held limit (l .steps) (rests j) t
+      → (leads t twins (further j) ≡ further (suc j)) × Held limit (l .steps) (rests (suc j)) (clearAt t (further j))
   unfolding rests
-  one-step j nexts marks i t =
-      let within : Within (l .steps) = λ x e. omega (arith, l .inside x e, l .few) in
-      let bound : further j < 14616 = omega (arith, far-inside j, l .few) in
+  one-step j t i g =
+      let within : Within 65535 (l .steps) = λ x e. omega (arith, l .inside x e, l .few) in
       let held : rests j (further j) ≡ true = rests-keep j (further j) (rest-far j v (h .on)) (λ k b. apart j k b i) in
-      let step : getD nexts (further j) 0 ≡ endFrom (l .steps) (further j) = t .next (further j) bound ∙ rw held in (
-        leads-onward (l .steps) (l .twin) nexts twins (further j) within step (l .table (further j) (far-inside j)) ∙ sym (far-next (after l) j v),
-        held-less (l .steps) (rests j) nexts marks (further j) bound t,
+      let step : nextAt t (further j) ≡ endFrom (l .steps) (further j) = g .next (further j) (far-below j) ∙ rw held in (
+        leads-onward (l .steps) (l .twin) t twins (further j) within step (l .table (further j) (far-inside j)) ∙ sym (far-next (after l) j v),
+        held-less limit (l .steps) (rests j) t (further j) (far-below j) g,
       )
 
   -- the walk after j + 1 steps
-  pub record Going (j at : ℕ) (nexts marks : List ℕ) : Type 0 where
+  pub record Going (j at : ℕ) (t : List ℕ) : Type 0 where
     pub short : j ≤ round .size
     pub is : at ≡ further (suc j)
-    pub held : Held (l .steps) (rests (suc j)) nexts marks
+    pub held : Held limit (l .steps) (rests (suc j)) t
 
-  pub going-inside : (j at : ℕ) (nexts marks : List ℕ) → Going j at nexts marks → at < 14616
-  going-inside j at nexts marks g = omega (arith, g .is, far-inside (suc j), l .few)
+  -- the walk can go off from v, and on from where it is
+  pub start-inside : (3 * v + 2 < length (s .trace)) × (v < length twins)
+  start-inside = (omega (arith, far-below 0, h .left .held .room), omega (arith, far-inside 0, l .long))
 
-  pub goes-off : (w r : Walk) (t : List ℕ × List ℕ) → w .at ≡ v → Stepped twins w r (s .nexts, s .marks) t → Going 0 (r .at) (t .0) (t .1)
+  pub going-inside : (j at : ℕ) (t : List ℕ) → Going j at t → (3 * at + 2 < length t) × (at < length twins)
+  going-inside j at t g = (omega (arith, g .is, far-below (suc j), g .held .room), omega (arith, g .is, far-inside (suc j), l .long))
+
+  pub goes-off : (w r : Walk) (t : List ℕ) → w .at ≡ v → Stepped twins w r (s .trace) t → Going 0 (r .at) t
   unfolding rests
   goes-off w r t e p =
-      let o = one-step 0 (s .nexts) (s .marks) (omega arith) (h .left .held) in
+      let o = one-step 0 (s .trace) (omega arith) (h .left .held) in
       record {
         short = omega arith;
-        is = ap (λ (u : Walk). u .at) (p .walk) ∙ ap (leads (s .nexts) twins) e ∙ o .0;
-        held = rw (p .nexts, p .marks, e) (o .1);
+        is = ap (λ (u : Walk). u .at) (p .walk) ∙ ap (leads (s .trace) twins) e ∙ o .0;
+        held = rw (p .trace, e) (o .1);
       }
 
   -- until it is back, it has not gone as far as the loop
-  before-back : (j at : ℕ) (nexts marks : List ℕ) → Going j at nexts marks → (at ≡ v → ⊥) → j < round .size
-  before-back j at nexts marks g d = go (ℕ-discrete j (round .size))
+  before-back : (j at : ℕ) (t : List ℕ) → Going j at t → (at ≡ v → ⊥) → j < round .size
+  before-back j at t g d = go (ℕ-discrete j (round .size))
     where
       go : Dec (j ≡ round .size) → j < round .size
       go (yes p) = absurd (d (g .is ∙ ap (λ (k : ℕ). further (suc k)) p ∙ round .back))
       go (no p) = omega (arith, g .short)
 
-  goes-on : (j : ℕ) (w r : Walk) (q t : List ℕ × List ℕ) → Going j (w .at) (q .0) (q .1) → (w .at ≡ v → ⊥) → Stepped twins w r q t
-      → Going (suc j) (r .at) (t .0) (t .1)
+  goes-on : (j : ℕ) (w r : Walk) (q t : List ℕ) → Going j (w .at) q → (w .at ≡ v → ⊥) → Stepped twins w r q t → Going (suc j) (r .at) t
   goes-on j w r q t g d p =
-      let o = one-step (suc j) (q .0) (q .1) (before-back j (w .at) (q .0) (q .1) g d) (g .held) in
+      let o = one-step (suc j) q (before-back j (w .at) q g d) (g .held) in
       record {
-        short = before-back j (w .at) (q .0) (q .1) g d;
-        is = ap (λ (u : Walk). u .at) (p .walk) ∙ ap (leads (q .0) twins) (g .is) ∙ o .0;
-        held = rw (p .nexts, p .marks, g .is) (o .1);
+        short = before-back j (w .at) q g d;
+        is = ap (λ (u : Walk). u .at) (p .walk) ∙ ap (leads q twins) (g .is) ∙ o .0;
+        held = rw (p .trace, g .is) (o .1);
       }
 
   -- when it is back, it has gone as far
-  pub comes-round : (j at : ℕ) (nexts marks : List ℕ) → Going j at nexts marks → at ≡ v → j ≡ round .size
-  comes-round j at nexts marks g e = go (decLe (round .size) j)
+  pub comes-round : (j at : ℕ) (t : List ℕ) → Going j at t → at ≡ v → j ≡ round .size
+  comes-round j at t g e = go (decLe (round .size) j)
     where
       go : Dec (round .size ≤ j) → j ≡ round .size
       go (yes p) = omega (arith, g .short)
@@ -225,7 +228,7 @@ module _ {twins : List ℕ} (l : Leaf twins) (v : ℕ) (s : Progress) (h : Start
   -- ---- the point is passed
 
   -- what is left when the walk is back: the loop is taken out, the others are whole
-  passed-left : (t : Progress) → Held (l .steps) (rests (suc (round .size))) (t .nexts) (t .marks) → Left l (v + 1) t
+  passed-left : (t : Progress) → Held limit (l .steps) (rests (suc (round .size))) (t .trace) → Left l limit (v + 1) t
   passed-left t held = record {
     rest = rests (suc (round .size));
     held = held;
@@ -258,22 +261,13 @@ module _ {twins : List ℕ} (l : Leaf twins) (v : ℕ) (s : Progress) (h : Start
           one-start l v x (in-far 0) (in-points l x m) (λ p. omega arith) lowest
           (subst (λ (c : List ℕ). 1 ≤ often x (v ∷ c)) (sym (round .is)) on)
 
-  pub walked : (j at : ℕ) (t : Progress) → Going j at (t .nexts) (t .marks) → at ≡ v → t .count ≡ s .count + length (fan (loop (l .points) (after l) v))
-      → t .out ≡ sets (s .out) (3 * s .count) (collect numbers (fan (loop (l .points) (after l) v))) → Swept l v 1 s t
+  pub walked : (j at : ℕ) (t : Progress) → Going j at (t .trace) → at ≡ v → t .count ≡ s .count + length (fan (loop (l .points) (after l) v))
+      → t .out ≡ sets (s .out) (3 * s .count) (collect numbers (fan (loop (l .points) (after l) v))) → Swept l limit v 1 s t
   walked j at t g e c o =
       let whole : fans l v 1 ≡ fan (loop (l .points) (after l) v) = fan-loop l v (h .left .met v (h .on)) lowest in
-      let held : Held (l .steps) (rests (suc (round .size))) (t .nexts) (t .marks) =
-      subst (λ (k : ℕ). Held (l .steps) (rests (suc k)) (t .nexts) (t .marks)) (comes-round j at (t .nexts) (t .marks) g e) (g .held) in
-      record {
-        left = passed-left t held;
-        fewer = λ x i m. fewer x i (rests (suc (round .size)) x) refl (sym (held .mark x i) ∙ m);
-        counted = rw whole c;
-        wrote = rw whole o;
-      }
-    where
-      fewer : (x : ℕ) → x < 14616 → (b : Bool) → rests (suc (round .size)) x ≡ b → bit b ≡ 1 → getD (s .marks) x 0 ≡ 1
-      fewer x i true q m = h .left .held .mark x i ∙ ap bit (rests-only (suc (round .size)) x q .0)
-      fewer x i false q m = absurd (omega arith)
+      let held : Held limit (l .steps) (rests (suc (round .size))) (t .trace) =
+      subst (λ (k : ℕ). Held limit (l .steps) (rests (suc k)) (t .trace)) (comes-round j at (t .trace) g e) (g .held) in
+      record { left = passed-left t held; counted = rw whole c; wrote = rw whole o }
 
   -- ---- the triangles on the way
 
@@ -301,7 +295,7 @@ module _ {twins : List ℕ} (l : Leaf twins) (v : ℕ) (s : Progress) (h : Start
   -- the state of the drawing after some triangles: the walk is at the last point of the next
   pub record Drawing (w : Walk) (t : Progress) : Type 0 where
     pub turns : ℕ
-    pub going : Going (suc turns) (w .at) (t .nexts) (t .marks)
+    pub going : Going (suc turns) (w .at) (t .trace)
     pub from : w .before ≡ further (suc turns)
     pub counted : t .count ≡ s .count + turns
     pub wrote : t .out ≡ sets (s .out) (3 * s .count) (collect numbers (begun turns))
@@ -313,17 +307,16 @@ module _ {twins : List ℕ} (l : Leaf twins) (v : ℕ) (s : Progress) (h : Start
   pub drawing-long : (w : Walk) (t : Progress) → Drawing w t → length (t .out) ≡ length (s .out)
   drawing-long w t d = ap length (d .wrote) ∙ length-sets (s .out) (3 * s .count) (collect numbers (begun (d .turns)))
 
-  pub draws-off : (w r : Walk) (q t : List ℕ × List ℕ) → Going 0 (w .at) (q .0) (q .1) → (w .at ≡ v → ⊥) → Stepped twins w r q t
-      → Drawing r (progress (t .0) (t .1) (s .out) (s .count))
+  pub draws-off : (w r : Walk) (q t : List ℕ) → Going 0 (w .at) q → (w .at ≡ v → ⊥) → Stepped twins w r q t → Drawing r (progress t (s .out) (s .count))
   draws-off w r q t g d p =
       let from = ap (λ (u : Walk). u .before) (p .walk) in
       record { turns = 0; going = goes-on 0 w r q t g d p; from = from ∙ g .is; counted = omega arith; wrote = refl }
 
-  pub draws-on : (w r : Walk) (t u : Progress) → Drawing w t → (w .at ≡ v → ⊥) → Stepped twins w r (t .nexts, t .marks) (u .nexts, u .marks)
+  pub draws-on : (w r : Walk) (t u : Progress) → Drawing w t → (w .at ≡ v → ⊥) → Stepped twins w r (t .trace) (u .trace)
       → u .out ≡ sets (t .out) (3 * t .count) (v ∷ w .before ∷ w .at ∷ []) → u .count ≡ t .count + 1 → Drawing r u
   draws-on w r t u g d p o c = record {
     turns = suc (g .turns);
-    going = goes-on (suc (g .turns)) w r (t .nexts, t .marks) (u .nexts, u .marks) (g .going) d p;
+    going = goes-on (suc (g .turns)) w r (t .trace) (u .trace) (g .going) d p;
     from = ap (λ (u : Walk). u .before) (p .walk) ∙ g .going .is;
     counted = omega (arith, g .counted);
     wrote =
@@ -342,16 +335,16 @@ module _ {twins : List ℕ} (l : Leaf twins) (v : ℕ) (s : Progress) (h : Start
           ∙ rw (g .from, g .going .is)
 
   -- the loop has one point, or the walk has drawn its fan
-  pub walked-one : (at : ℕ) (nexts marks : List ℕ) → Going 0 at nexts marks → at ≡ v → Swept l v 1 s (progress nexts marks (s .out) (s .count))
-  walked-one at nexts marks g e =
+  pub walked-one : (at : ℕ) (t : List ℕ) → Going 0 at t → at ≡ v → Swept l limit v 1 s (progress t (s .out) (s .count))
+  walked-one at t g e =
       let none : fan (loop (l .points) (after l) v) ≡ [] =
-      ap (λ (c : List ℕ). fan (v ∷ c)) (round .is ∙ ap (λ (k : ℕ). trail (after l) k (after l v)) (sym (comes-round 0 at nexts marks g e))) in
-      walked 0 at (progress nexts marks (s .out) (s .count)) g e (rw none (omega arith)) (rw none)
+      ap (λ (c : List ℕ). fan (v ∷ c)) (round .is ∙ ap (λ (k : ℕ). trail (after l) k (after l v)) (sym (comes-round 0 at t g e))) in
+      walked 0 at (progress t (s .out) (s .count)) g e (rw none (omega arith)) (rw none)
 
-  pub walked-round : (w : Walk) (t : Progress) → Drawing w t → w .at ≡ v → Swept l v 1 s t
+  pub walked-round : (w : Walk) (t : Progress) → Drawing w t → w .at ≡ v → Swept l limit v 1 s t
   walked-round w t g e =
       let whole : fan (loop (l .points) (after l) v) ≡ begun (g .turns) =
       ap (λ (c : List ℕ). fan (v ∷ c))
-      (round .is ∙ ap (λ (k : ℕ). trail (after l) k (after l v)) (sym (comes-round (suc (g .turns)) (w .at) (t .nexts) (t .marks) (g .going) e))) in
+      (round .is ∙ ap (λ (k : ℕ). trail (after l) k (after l v)) (sym (comes-round (suc (g .turns)) (w .at) (t .trace) (g .going) e))) in
       walked (suc (g .turns)) (w .at) t (g .going) e
       (rw whole (omega (arith, g .counted, fan-trail (g .turns) (after l (after l v)) (after l v)))) (rw whole (g .wrote))

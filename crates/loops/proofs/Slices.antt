@@ -2,14 +2,14 @@
 --     three-sets       the stores of one triangle
 --     sets-append      stores that go on where others ended
 --     sets-into        all stores, from the front on
---     into-all, into-none      what that is where there is room for all, and where there is none
+--     into-all         what that is where there is room for all
 -- Assumes nothing.
 use mathlib.Core.Path.{_≡_, refl, sym, ap, _∙_}
 use mathlib.Core.List.{List, [], _∷_, _++_}
 use Prim.Native.Nat.{ℕ, suc, _+_, _*_, _≤_}
 use native.Mathlib.Omega.{arith}
 use lib.ListN.{length, set, drop}
-use lib.Seq.{sets, take-all, take-nil, drop-nil}
+use lib.Seq.{sets, take-all, take-nil}
 use Rattle.base.specs.Lists.{collect}
 use Rattle.rules.specs.Steps.{Triangle}
 use Rattle.rules.specs.Outputs.{numbers, written}
@@ -46,9 +46,6 @@ sets-into (x ∷ xs) (y ∷ out) = sets-cons xs out x 0 ∙ ap (λ (l : List ℕ
 
 pub into-all : (xs out : List ℕ) → length xs ≤ length out → into xs out ≡ written xs out
 into-all xs out h = ap (λ (l : List ℕ). l ++ drop (length xs) out) (take-all (length out) xs h)
-
-pub into-none : (xs : List ℕ) → into xs [] ≡ []
-into-none xs = drop-nil (length xs)
 
 -- three numbers for each triangle
 pub length-numbers : (ts : List Triangle) → length (collect numbers ts) ≡ 3 * length ts

@@ -1,8 +1,8 @@
--- The sweep over the points of a leaf, one after the other and in blocks.
+-- The points of a leaf, passed in rising order.
 --     in-points, of-points            the points that the face steps meet, by test and by list
---     fans-append, fan-none, fan-loop      the triangles of the loops that start at some points
---     swept-none, swept-more          no point, and points after others
---     swept-past, swept-row           a point without a mark, and a row of such points
+--     fans-append, fans-none, fan-loop      the triangles of the loops that start at some points
+--     swept-none, swept-more, swept-row     no point, points after others, and points that are not left
+--     mark-rest, swept-long           a point with a mark is left; the slice stays as long as it was
 --     begins, drawn                   from the trace of the leaf to its triangles and the empty trace
 -- Assumes nothing.
 use mathlib.Core.Path.{_≡_, refl, sym, ap, _∙_, subst}
@@ -11,17 +11,18 @@ use mathlib.Core.List.{List, [], _∷_, _++_, append-nil, append-assoc}
 use Prim.Native.Nat.{ℕ, zero, suc, _+_, _*_, _-_, _≤_, _<_}
 use native.Mathlib.Nat.{zero-add, add-zero, suc-add, mul-le-mul-left}
 use native.Mathlib.Omega.{arith}
-use native.Mathlib.Decide.{ℕ-discrete}
+use native.Mathlib.Decide.{decLe}
 use lib.Dec.{eqb}
-use lib.ListN.{length, getD, length-append}
-use lib.Seq.{sets}
-use Rattle.base.specs.Lists.{bit, first, keep, collect, count, often}
+use lib.ListN.{length, set, length-append, length-set}
+use lib.Seq.{sets, length-sets, getD-set-same, getD-set-other}
+use Rattle.base.specs.Lists.{first, keep, collect, count, often}
 use Rattle.base.proofs.Tests.{→true, true→}
 use Rattle.base.proofs.Lists.{in-keep, keep-in, count-in}
 use Rattle.base.proofs.Counts.{in-often, often-in, length-count}
 use Rattle.rules.specs.Steps.{Step, Triangle, met, until, loop, lowestFirst, loops, fanFrom, fan}
 use Rattle.rules.specs.Outputs.{numbers}
-use Rattle.trace.specs.Trace.{Trace, trace, Traced, meets, endFrom}
+use Rattle.trace.specs.Trace.{Traced, markAt, markOf, meets, endFrom}
+use Rattle.trace.proofs.Laws.{empty, met-few}
 use Rattle.loops.specs.Loops.{Leaf, triangles, into, Drawn}
 use Rattle.loops.specs.Sweep.{Progress, progress, after, Left, fans, Swept}
 use Rattle.loops.proofs.Slices.{sets-append, sets-into, length-numbers, numbers-append}
@@ -86,21 +87,22 @@ module _ {twins : List ℕ} (l : Leaf twins) where
   pub fans-append : (v k j : ℕ) → fans l v (k + j) ≡ fans l v k ++ fans l (v + k) j
   fans-append v k j = ap over (count-append k j v) ∙ over-append (count v k) (count (v + k) j)
 
-  -- no loop starts at v
-  pub fan-none : (v : ℕ) → (meets (l .steps) v ≡ true → lowestFirst (loop (l .points) (after l) v) ≡ false) → fans l v 1 ≡ []
-  fan-none v h = go (meets (l .steps) v) refl
+  -- no loop starts at the points from v on
+  pub fans-none : (k v : ℕ)
+      → ((x : ℕ) → v ≤ x → x < v + k → meets (l .steps) x ≡ true → lowestFirst (loop (l .points) (after l) x) ≡ false) → fans l v k ≡ []
+  fans-none zero v h = refl
+  fans-none (suc k) v h = go (meets (l .steps) v) refl (fans-none k (suc v) (λ x i j. h x (omega arith) (omega arith)))
     where
-      go : (b : Bool) → meets (l .steps) v ≡ b → collect fan (loops (l .points) (after l) (cond b (v ∷ []) [])) ≡ []
-      go true e = rw (h e)
-      go false e = refl
+      others : List ℕ
+      others = keep (meets (l .steps)) (count (suc v) k)
 
-  -- one does
+      go : (b : Bool) → meets (l .steps) v ≡ b → fans l (suc v) k ≡ [] → collect fan (loops (l .points) (after l) (cond b (v ∷ others) others)) ≡ []
+      go true e ih = rw (h v (omega arith) (omega arith) e) ih
+      go false e ih = ih
+
+  -- one starts at v
   pub fan-loop : (v : ℕ) → meets (l .steps) v ≡ true → lowestFirst (loop (l .points) (after l) v) ≡ true → fans l v 1 ≡ fan (loop (l .points) (after l) v)
   fan-loop v m e = rw (m, e) (append-nil (fan (loop (l .points) (after l) v)))
-
-  pub fans-none : (k v : ℕ) → ((x : ℕ) → v ≤ x → meets (l .steps) x ≡ false) → fans l v k ≡ []
-  fans-none zero v h = refl
-  fans-none (suc k) v h = rw (h v (omega arith)) (fans-none k (suc v) (λ x i. h x (omega arith)))
 
   -- ---- how many
 
@@ -148,14 +150,13 @@ module _ {twins : List ℕ} (l : Leaf twins) where
 
   -- ---- points passed
 
-  pub swept-none : (v : ℕ) (s : Progress) → Left l v s → Swept l v 0 s s
-  swept-none v s h =
-      record { left = subst (λ (u : ℕ). Left l u s) (sym (add-zero v)) h; fewer = λ x i e. e; counted = omega arith; wrote = refl }
+  pub swept-none : (limit v : ℕ) (s : Progress) → Left l limit v s → Swept l limit v 0 s s
+  swept-none limit v s h =
+      record { left = subst (λ (u : ℕ). Left l limit u s) (sym (add-zero v)) h; counted = omega arith; wrote = refl }
 
-  pub swept-more : (v k j : ℕ) (s t u : Progress) → Swept l v k s t → Swept l (v + k) j t u → Swept l v (k + j) s u
-  swept-more v k j s t u p q = record {
-    left = let e : v + k + j ≡ v + (k + j) = omega arith in subst (λ (x : ℕ). Left l x u) e (q .left);
-    fewer = λ x i e. p .fewer x i (q .fewer x i e);
+  pub swept-more : (limit v k j : ℕ) (s t u : Progress) → Swept l limit v k s t → Swept l limit (v + k) j t u → Swept l limit v (k + j) s u
+  swept-more limit v k j s t u p q = record {
+    left = let e : v + k + j ≡ v + (k + j) = omega arith in subst (λ (x : ℕ). Left l limit x u) e (q .left);
     counted = rw (fans-append v k j, length-append) (omega (arith, p .counted, q .counted));
     wrote =
         q .wrote ∙ ap (λ (o : List ℕ). sets o (3 * t .count) (collect numbers (fans l (v + k) j))) (p .wrote)
@@ -170,51 +171,53 @@ module _ {twins : List ℕ} (l : Leaf twins) where
       at : 3 * t .count ≡ 3 * s .count + length (collect numbers (fans l v k))
       at = omega (arith, p .counted, length-numbers (fans l v k))
 
-  -- a point without a mark: none of its loop is left
-  pub swept-past : (v : ℕ) (s : Progress) → v < 14616 → Left l v s → getD (s .marks) v 0 ≡ 0 → Swept l v 1 s s
-  swept-past v s i h z = record {
+  -- points that are not left: of their loops none is
+  pub swept-row : (limit v k : ℕ) (s : Progress) (h : Left l limit v s) → ((x : ℕ) → v ≤ x → x < v + k → h .rest x ≡ false) → Swept l limit v k s s
+  swept-row limit v k s h off = record {
     left = record {
       rest = h .rest;
       held = h .held;
       met = h .met;
       stays = h .stays;
-      low = λ x e. beyond x e (ℕ-discrete x v);
+      low = λ x e. beyond x e (decLe (v + k) x);
       passed = λ x m e b. h .passed x m e (omega arith);
     };
-    fewer = λ x i e. e;
     counted = rw none (omega arith);
     wrote = rw none;
   }
     where
-      off : h .rest v ≡ false
-      off = go (h .rest v) (sym (h .held .mark v i) ∙ z)
-        where
-          go : (b : Bool) → bit b ≡ 0 → b ≡ false
-          go true e = absurd (omega arith)
-          go false e = refl
+      none : fans l v k ≡ []
+      none = fans-none k v (λ x i j m. h .passed x m (off x i j) i)
 
-      none : fans l v 1 ≡ []
-      none = fan-none v (λ m. h .passed v m off (omega arith))
+      beyond : (x : ℕ) → h .rest x ≡ true → Dec (v + k ≤ x) → v + k ≤ x
+      beyond x e (yes p) = p
+      beyond x e (no d) = absurd (false≢true (sym (off x (h .low x e) (omega arith)) ∙ e))
 
-      beyond : (x : ℕ) → h .rest x ≡ true → Dec (x ≡ v) → v + 1 ≤ x
-      beyond x e (yes p) = absurd (false≢true (sym off ∙ ap (h .rest) (sym p) ∙ e))
-      beyond x e (no d) = omega (arith, h .low x e)
+  -- a point with a mark is left
+  pub mark-rest : (limit v x : ℕ) (s : Progress) (h : Left l limit v s) → x < limit → markAt (s .trace) x ≡ 1 → h .rest x ≡ true
+  mark-rest limit v x s h i e = go (h .rest x) (sym (h .held .mark x i) ∙ e)
+    where
+      go : (b : Bool) → markOf b ≡ 1 → b ≡ true
+      go true q = refl
+      go false q = absurd (omega arith)
 
-  -- a row of such points
-  pub swept-row : (k v : ℕ) (s : Progress) → v + k ≤ 14616 → Left l v s → ((x : ℕ) → v ≤ x → x < v + k → getD (s .marks) x 0 ≡ 0) → Swept l v k s s
-  swept-row zero v s i h z = swept-none v s h
-  swept-row (suc k) v s i h z =
-      let one = swept-past v s (omega arith) h (z v (omega arith) (omega arith)) in
-      let rest = swept-row k (v + 1) s (omega arith) (one .left) (λ x a b. z x (omega arith) (omega arith)) in
-      let e : 1 + k ≡ suc k = omega arith in
-      subst (λ (j : ℕ). Swept l v j s s) e (swept-more v 1 k s s s one rest)
+  pub swept-long : (limit v k : ℕ) (s t : Progress) → Swept l limit v k s t → length (t .out) ≡ length (s .out)
+  swept-long limit v k s t h = ap length (h .wrote) ∙ length-sets (s .out) (3 * s .count) (collect numbers (fans l v k))
 
   -- ---- the whole leaf
 
-  pub begins : (t : Trace) (out : List ℕ) (r : ℕ) → Traced (l .steps) t → Left l 0 (progress (t .nexts) (t .marks) out r)
-  begins t out r h = record {
+  pub begins : (limit : ℕ) (t out : List ℕ) (r : ℕ) → Traced limit (l .steps) t → Left l limit 0 (progress t out r)
+  begins limit t out r h = record {
     rest = meets (l .steps);
-    held = record { nextsLong = h .sized .points; marksLong = h .sized .same; next = λ x i. h .next x i ∙ ended x (meets (l .steps) x) refl; mark = h .mark };
+    held = record {
+      room = h .room;
+      small = h .small;
+      next = λ x i. h .next x i ∙ ended x (meets (l .steps) x) refl;
+      mark = h .mark;
+      few = met-few limit (l .steps) t h;
+      listed = h .listed;
+      lists = h .lists;
+    };
     met = λ x e. e;
     stays = met-on;
     low = λ x e. omega arith;
@@ -225,38 +228,35 @@ module _ {twins : List ℕ} (l : Leaf twins) where
       ended x true e = refl
       ended x false e = unmet-end (l .steps) x e
 
-  ends : (s : Progress) (blocks : List ℕ) → length blocks ≡ 128 → Left l 14616 s → Traced [] (trace (s .nexts) (s .marks) blocks)
-  ends s blocks b h = record {
-    sized = record { points = h .held .nextsLong; same = h .held .marksLong; groups = b };
-    within = λ x e. absurd (false≢true e);
-    next = λ x i. h .held .next x i ∙ ap (λ (u : Bool). cond u (endFrom (l .steps) x) 65535) (off x i (h .rest x) refl);
-    mark = λ x i. h .held .mark x i ∙ ap bit (off x i (h .rest x) refl);
-    block = λ x i e. absurd (omega (arith, h .held .mark x i ∙ ap bit (off x i (h .rest x) refl)));
-  }
+  ends : (limit v : ℕ) (s : Progress) → v ≡ 65535 → Left l limit v s → Traced limit [] (set (s .trace) 0 0)
+  ends limit v s e h =
+      empty limit (set t 0 0) (h .held .small) (length-set t 0 0 ∙ h .held .room) (getD-set-same t 0 0 0 (omega (arith, h .held .room)))
+      (λ x i. (
+        getD-set-other t 0 (3 * x + 1) 0 0 (λ q. omega arith) ∙ h .held .next x i
+            ∙ ap (λ (u : Bool). cond u (endFrom (l .steps) x) 65535) (off x i (h .rest x) refl),
+        getD-set-other t 0 (3 * x + 2) 0 0 (λ q. omega arith) ∙ h .held .mark x i ∙ ap markOf (off x i (h .rest x) refl),
+      ))
     where
-      off : (x : ℕ) → x < 14616 → (u : Bool) → h .rest x ≡ u → h .rest x ≡ false
-      off x i true e = absurd (omega (arith, h .low x e))
-      off x i false e = e
+      t : List ℕ
+      t = s .trace
+
+      off : (x : ℕ) → x < limit → (u : Bool) → h .rest x ≡ u → h .rest x ≡ false
+      off x i true q = absurd (omega (arith, h .low x q, h .held .small))
+      off x i false q = q
 
   -- all points are passed
-  all-fans : (k : ℕ) → k ≡ 14616 → fans l 0 k ≡ triangles l
+  all-fans : (k : ℕ) → k ≡ 65535 → fans l 0 k ≡ triangles l
   all-fans k e =
       let split : k ≡ l .points + (k - l .points) = omega (arith, l .few) in
       ap (fans l 0) split ∙ fans-append 0 (l .points) (k - l .points)
-      ∙ ap (λ (ts : List Triangle). fans l 0 (l .points) ++ ts) (fans-none (k - l .points) (0 + l .points) beyond) ∙ append-nil (fans l 0 (l .points))
-    where
-      beyond : (x : ℕ) → 0 + l .points ≤ x → meets (l .steps) x ≡ false
-      beyond x i = go (meets (l .steps) x) refl
-        where
-          go : (b : Bool) → meets (l .steps) x ≡ b → b ≡ false
-          go true e = absurd (omega (arith, l .inside x e))
-          go false e = refl
+      ∙ ap (λ (ts : List Triangle). fans l 0 (l .points) ++ ts)
+      (fans-none (k - l .points) (0 + l .points) (λ x i j m. absurd (omega (arith, l .inside x m)))) ∙ append-nil (fans l 0 (l .points))
 
-  pub drawn : (k : ℕ) (s t : Progress) (blocks : List ℕ) → k ≡ 14616 → s .count ≡ 0 → length blocks ≡ 128 → Swept l 0 k s t
-      → Drawn l (s .out) (t .out) (t .count) (trace (t .nexts) (t .marks) blocks)
-  drawn k s t blocks e z b h = record {
+  pub drawn : (limit k : ℕ) (s t : Progress) → k ≡ 65535 → s .count ≡ 0 → Swept l limit 0 k s t
+      → Drawn limit l (s .out) (t .out) (t .count) (set (t .trace) 0 0)
+  drawn limit k s t e z h = record {
     counted = h .counted ∙ rw (z, zero-add) (ap length (all-fans k e));
     wrote =
         h .wrote ∙ rw z (sets-into (collect numbers (fans l 0 k)) (s .out)) ∙ ap (λ (ts : List Triangle). into (collect numbers ts) (s .out)) (all-fans k e);
-    emptied = ends t blocks b (let whole : 0 + k ≡ 14616 = omega arith in subst (λ (v : ℕ). Left l v t) whole (h .left));
+    emptied = ends limit (0 + k) t (omega arith) (h .left);
   }

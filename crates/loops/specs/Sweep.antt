@@ -1,92 +1,100 @@
--- The sweep over the points of a leaf in rising order, each loop from the first of its points that comes: what is done when the points below
+-- The way through the points of a leaf in rising order, each loop from the first of its points that comes: what is done when the points below
 -- one are passed.
 -- Assumes nothing: these are definitions.
 use mathlib.Core.Path.{_≡_}
+use mathlib.Core.Logic.{_⊎_}
 use mathlib.Core.Bool.{Bool, true, false, cond}
 use mathlib.Core.List.{List}
-use Prim.Native.Nat.{ℕ, _+_, _*_, _-_, _≤_, _<_, min}
+use Prim.Native.Nat.{ℕ, _+_, _*_, _≤_, _<_}
 use lib.Dec.{eqb}
 use lib.ListN.{length, getD, set}
 use lib.Seq.{sets}
-use Rattle.base.specs.Lists.{bit, keep, collect, count}
+use Rattle.base.specs.Lists.{keep, collect, count}
 use Rattle.rules.specs.Steps.{Step, Triangle, onward, loop, lowestFirst, loops, fan}
 use Rattle.rules.specs.Outputs.{numbers}
-use Rattle.trace.specs.Trace.{meets, endFrom}
+use Rattle.trace.specs.Trace.{nextAt, markAt, metAt, metCount, markOf, meets, endFrom}
 use Rattle.loops.specs.Loops.{Leaf}
 use Rattle.loops.specs.declared.Walk.{Walk}
 
 -- where the tables lead from v: along the face step that leaves it, or to its twin where none does
 abbrev pub leads : List ℕ → List ℕ → ℕ → ℕ
-leads nexts twins v = cond (eqb (getD nexts v 0) 65535) (getD twins v 0) (getD nexts v 0)
+leads t twins v = cond (eqb (nextAt t v) 65535) (getD twins v 0) (nextAt t v)
 
 -- the state of a walk one step on
 abbrev pub onOf : List ℕ → List ℕ → Walk → Walk
-onOf nexts twins w = record { before = w .at; at = leads nexts twins (w .at) }
+onOf t twins w = record { before = w .at; at = leads t twins (w .at) }
 
--- From v the walk goes to u as the rules say, of any face steps between points of the tables, where these hold the step from v, and its twin.
+-- From v the walk goes to u as the rules say, of any face steps between points, where the trace holds the step from v, and the table its twin.
 abbrev pub Follows : List ℕ → List ℕ → ℕ → ℕ → Type 0
-Follows nexts twins v u =
-    (ss : List Step) (twin : ℕ → ℕ) → ((x : ℕ) → meets ss x ≡ true → x < 14616) → getD nexts v 0 ≡ endFrom ss v → getD twins v 0 ≡ twin v
+Follows t twins v u =
+    (ss : List Step) (twin : ℕ → ℕ) → ((x : ℕ) → meets ss x ≡ true → x < 65535) → nextAt t v ≡ endFrom ss v → getD twins v 0 ≡ twin v
     → u ≡ onward ss twin v
 
--- A walk goes one step on, from w to r, and takes the point it leaves out of the tables: of the next points, and of the marks.
-pub record Stepped (twins : List ℕ) (w r : Walk) (s t : List ℕ × List ℕ) : Type 0 where
-  pub walk : r ≡ onOf (s .0) twins w
-  pub nexts : t .0 ≡ set (s .0) (w .at) 65535
-  pub marks : t .1 ≡ set (s .1) (w .at) 0
+-- a point is taken out: no step leaves it, and it has no mark
+abbrev pub clearAt : List ℕ → ℕ → List ℕ
+clearAt t v = set (set t (3 * v + 1) 65535) (3 * v + 2) 65535
 
--- the tables and the slice while a leaf is drawn, and how many triangles are
+-- A walk goes one step on, from w to r, and takes the point it leaves out of the trace.
+pub record Stepped (twins : List ℕ) (w r : Walk) (t u : List ℕ) : Type 0 where
+  pub walk : r ≡ onOf t twins w
+  pub trace : u ≡ clearAt t (w .at)
+
+-- Of the first n points of the list, r is the lowest that has a mark, or 65,535.
+pub record Lowest (t : List ℕ) (n r : ℕ) : Type 0 where
+  pub least : (i : ℕ) → i < n → markAt t (metAt t i) ≡ 1 → r ≤ metAt t i
+  pub found : (r ≡ 65535) ⊎ ((i : ℕ) × (i < n) × (metAt t i ≡ r) × (markAt t r ≡ 1))
+
+-- the trace and the slice while a leaf is drawn, and how many triangles are
 pub record Progress : Type 0 where
-  pub nexts : List ℕ
-  pub marks : List ℕ
+  pub trace : List ℕ
   pub out : List ℕ
   pub count : ℕ
 
-abbrev pub progress : List ℕ → List ℕ → List ℕ → ℕ → Progress
-progress nexts marks out count = record { nexts = nexts; marks = marks; out = out; count = count }
+abbrev pub progress : List ℕ → List ℕ → ℕ → Progress
+progress t out count = record { trace = t; out = out; count = count }
 
--- the tables hold the steps from the points that pass a test, and no others
-pub record Held (steps : List Step) (rest : ℕ → Bool) (nexts marks : List ℕ) : Type 0 where
-  pub nextsLong : length nexts ≡ 14616
-  pub marksLong : length marks ≡ 14616
-  pub next : (v : ℕ) → v < 14616 → getD nexts v 0 ≡ cond (rest v) (endFrom steps v) 65535
-  pub mark : (v : ℕ) → v < 14616 → getD marks v 0 ≡ bit (rest v)
+-- the trace holds the steps from the points that pass a test, and no others; these points are in its list
+pub record Held (limit : ℕ) (steps : List Step) (rest : ℕ → Bool) (t : List ℕ) : Type 0 where
+  pub room : length t ≡ 3 * limit + 1
+  pub small : limit ≤ 14616
+  pub next : (v : ℕ) → v < limit → nextAt t v ≡ cond (rest v) (endFrom steps v) 65535
+  pub mark : (v : ℕ) → v < limit → markAt t v ≡ markOf (rest v)
+  pub few : metCount t ≤ limit
+  pub listed : (v : ℕ) → rest v ≡ true → (i : ℕ) × (i < metCount t) × (metAt t i ≡ v)
+  pub lists : (i : ℕ) → i < metCount t → metAt t i < limit
 
 module _ {twins : List ℕ} (l : Leaf twins) where
   abbrev pub after : ℕ → ℕ
   after = onward (l .steps) (l .twin)
 
+  -- the triangles of the loops that start at the k points from v on
+  abbrev pub fans : ℕ → ℕ → List Triangle
+  fans v k = collect fan (loops (l .points) after (keep (meets (l .steps)) (count v k)))
+
   -- What is left when the points below v are passed: whole loops, of points from v on, and every loop whose lowest point is not below v.
-  pub record Left (v : ℕ) (s : Progress) : Type 0 where
+  pub record Left (limit v : ℕ) (s : Progress) : Type 0 where
     pub rest : ℕ → Bool
-    pub held : Held (l .steps) rest (s .nexts) (s .marks)
+    pub held : Held limit (l .steps) rest (s .trace)
     pub met : (x : ℕ) → rest x ≡ true → meets (l .steps) x ≡ true
     pub stays : (x : ℕ) → rest x ≡ true → rest (after x) ≡ true
     pub low : (x : ℕ) → rest x ≡ true → v ≤ x
     pub passed : (x : ℕ) → meets (l .steps) x ≡ true → rest x ≡ false → v ≤ x → lowestFirst (loop (l .points) after x) ≡ false
 
-  -- the triangles of the loops that start at the k points from v on
-  abbrev pub fans : ℕ → ℕ → List Triangle
-  fans v k = collect fan (loops (l .points) after (keep (meets (l .steps)) (count v k)))
-
   -- the k points from v on are passed
-  pub record Swept (v k : ℕ) (s t : Progress) : Type 0 where
-    pub left : Left (v + k) t
-    pub fewer : (x : ℕ) → x < 14616 → getD (t .marks) x 0 ≡ 1 → getD (s .marks) x 0 ≡ 1
+  pub record Swept (limit v k : ℕ) (s t : Progress) : Type 0 where
+    pub left : Left limit (v + k) t
     pub counted : t .count ≡ s .count + length (fans v k)
     pub wrote : t .out ≡ sets (s .out) (3 * s .count) (collect numbers (fans v k))
 
--- some leaf is left from v on, and the count is small enough
+-- some leaf is left from v on, v has a mark, and the count is small enough
 pub record Ready (twins : List ℕ) (v : ℕ) (s : Progress) : Type 0 where
-  pub long : length twins ≡ 14616
+  pub limit : ℕ
   pub leaf : Leaf twins
-  pub left : Left leaf v s
+  pub left : Left leaf limit v s
+  pub inside : v < limit
+  pub mark : markAt (s .trace) v ≡ 1
   pub room : s .count ≤ v * 14616
 
--- whatever leaf is left from v on, its k points from v on are passed
-abbrev pub Passes : List ℕ → ℕ → ℕ → Progress → Progress → Type 0
-Passes twins v k s t = (l : Leaf twins) → Left l v s → Swept l v k s t
-
--- how many points a block has: 128, or the rest
-abbrev pub blockSize : ℕ → ℕ
-blockSize block = min 128 (14616 - 128 * block)
+-- whatever leaf is left from v on, its point v is passed
+abbrev pub Passes : List ℕ → ℕ → Progress → Progress → Type 0
+Passes twins v s t = (limit : ℕ) (l : Leaf twins) → Left l limit v s → Swept l limit v 1 s t

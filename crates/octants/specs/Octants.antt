@@ -5,13 +5,13 @@ use mathlib.Core.List.{List}
 use lib.ListN.{length, getD}
 use Rattle.base.specs.Grid.{Place, origin, octants}
 use Rattle.records.specs.Keys.{placesOf, recordAt}
-use Rattle.cells.specs.Laid.{cellAt, octantKey}
+use Rattle.cells.specs.Laid.{cellAt, octantKey, keyIn, levelIn}
 
--- The table holds what the look-up of each corner of the first m cells gives, by the tables of their keys and levels: where there is no
+-- The table holds what the look-up of each corner of the first m cells gives, by the table of their keys and levels: where there is no
 -- corner record, the number of records.
-pub record LookedUp (tk keys levels t : List ℕ) (m : ℕ) : Type 0 where
+pub record LookedUp (tk table t : List ℕ) (m : ℕ) : Type 0 where
   pub room : length t ≡ 16392
-  pub number : (n i : ℕ) → n < m → i < 8 → getD t (8 * n + i) 0 ≡ recordAt tk (getD keys n 0 + octantKey i (2 ^ getD levels n 0))
+  pub number : (n i : ℕ) → n < m → i < 8 → getD t (8 * n + i) 0 ≡ recordAt tk (keyIn table n + octantKey i (2 ^ levelIn table n))
 
 -- the place of corner i of the cell of record n
 abbrev pub octantOf : List ℕ → ℕ → ℕ → Place

@@ -2,14 +2,21 @@
 ghost use mathlib.Core.Path.{_≡_};
 ghost use mathlib.Core.Bool.{true};
 ghost use Prim.Native.Nat.{ℕ, _+_, _*_, _^_, _≤_, _<_};
-ghost use lib.ListN.{length, getD};
+ghost use lib.ListN.{length};
 ghost use Rattle.rules.specs.Outputs.{rising};
 ghost use Rattle.records.specs.Keys.{placesOf, recordAt};
-ghost use Rattle.cells.specs.Laid.{octantKey, writtenAt};
+ghost use Rattle.cells.specs.Laid.{octantKey, writtenAt, levelIn};
 ghost use Rattle.octants.specs.Octants.{LookedUp};
 
 // Looks up the eight corners of cell `n`, by the key of its lowest corner and its level.
-fn fill_cell(corners: &[u8], n: usize, key: u64, level: u8, octants: &mut [u16])
+fn fill_cell(
+    corners: &[u8],
+    hints: &[u16; 8192],
+    n: usize,
+    key: u64,
+    level: u8,
+    octants: &mut [u16],
+)
     requires { ⌜ rising (placesOf (now corners)) ≡ true ⌝ }
     requires { ⌜ (length (now corners) ≤ 48720) × (length (now octants) ≡ 16392) ⌝ }
     requires { ⌜ (n < 2049) × (key ≤ 9223372036854775808) × (level ≤ 10) ⌝ }
@@ -19,22 +26,41 @@ fn fill_cell(corners: &[u8], n: usize, key: u64, level: u8, octants: &mut [u16])
     let size = cells::size_of(level);
     let mut i: usize = 0;
     while i < 8 {
-        octants[8 * n + i] = reader::find(corners, key + cells::octant_key(i, size)) as u16;
+        octants[8 * n + i] = reader::hints::find(
+            corners,
+            hints,
+            key + cells::octant_key(i, size),
+        ) as u16;
         i += 1;
     }
 }
 
-// The table of the corners of the first cells, filled by their keys and levels.
-pub fn fill(corners: &[u8], keys: &[u64], levels: &[u8], cells: usize, octants: &mut [u16])
+// The corners of the first cells, by their keys and levels.
+fn fill_cells(corners: &[u8], hints: &[u16; 8192], laid: &[u64], cells: usize, octants: &mut [u16])
     requires { ⌜ rising (placesOf (now corners)) ≡ true ⌝ }
     requires { ⌜ (length (now corners) ≤ 48720) × (length (now octants) ≡ 16392) ⌝ }
-    requires { ⌜ (cells ≤ 2049) × (cells ≤ length (now keys)) × (cells ≤ length (now levels)) ⌝ }
-    requires { ⌜ ((n : ℕ) → n < cells → (getD (now keys) n 0 ≤ 9223372036854775808) × (getD (now levels) n 0 ≤ 10)) ⌝ }
-    ensures { λ _. ⌜ LookedUp (now (corners .entry)) (now (keys .entry)) (now (levels .entry)) (now (octants .exit)) cells ⌝ }
+    requires { ⌜ (cells ≤ 2049) × (cells ≤ length (now laid)) ⌝ }
+    requires { ⌜ ((n : ℕ) → n < cells → levelIn (now laid) n ≤ 10) ⌝ }
+    ensures { λ _. ⌜ LookedUp (now (corners .entry)) (now (laid .entry)) (now (octants .exit)) cells ⌝ }
 {
     let mut n: usize = 0;
     while n < cells {
-        fill_cell(corners, n, keys[n], levels[n], octants);
+        let key = cells::key_in(laid, n);
+        let level = cells::level_in(laid, n);
+        fill_cell(corners, hints, n, key, level, octants);
         n += 1;
     }
+}
+
+// The table of the corners of the first cells, filled by their keys and levels. Hints spare nearly every search.
+pub fn fill(corners: &[u8], laid: &[u64], cells: usize, octants: &mut [u16])
+    requires { ⌜ rising (placesOf (now corners)) ≡ true ⌝ }
+    requires { ⌜ (length (now corners) ≤ 48720) × (length (now octants) ≡ 16392) ⌝ }
+    requires { ⌜ (cells ≤ 2049) × (cells ≤ length (now laid)) ⌝ }
+    requires { ⌜ ((n : ℕ) → n < cells → levelIn (now laid) n ≤ 10) ⌝ }
+    ensures { λ _. ⌜ LookedUp (now (corners .entry)) (now (laid .entry)) (now (octants .exit)) cells ⌝ }
+{
+    let mut hints = [65535u16; 8192];
+    reader::hints::fill(corners, &mut hints);
+    fill_cells(corners, &hints, laid, cells, octants);
 }

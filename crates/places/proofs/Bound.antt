@@ -10,11 +10,10 @@ use native.Mathlib.Omega.{arith}
 use lib.Dec.{T, lit≤}
 use lib.IntN.{pos}
 use lib.Pow.{pow-pos}
-use lib.Ieee.{Float, inf, fin, binary32, mul, le, ofInt, fits}
-use lib.Ieee.Bits.{is-true}
+use lib.Ieee.{Float, inf, fin, binary32, le, ofInt, fits}
 use lib.Ieee.Scale.{finite}
-use Rattle.base.specs.Grid.{Place, Axis, X, Y, Z, next, along, move}
-use Rattle.base.proofs.Tests.{and→, true→, false→}
+use Rattle.base.specs.Grid.{Place, Axis, X, Y, Z, next, along}
+use Rattle.base.proofs.Tests.{and→, true→}
 use Rattle.base.proofs.Places.{along-put}
 use Rattle.rounding.proofs.Order.{Between, le→Le, not-le→Lt, lt-le, Le, Lt}
 use Rattle.rounding.proofs.Rounds.{AtMost, whole-is, between-wider}

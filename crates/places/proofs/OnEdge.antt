@@ -9,7 +9,7 @@ use native.Mathlib.Omega.{arith}
 use lib.Dec.{T}
 use lib.IntN.{pos}
 use lib.ListN.{length}
-use lib.Ieee.{Float, fin, binary32, ofBits, fits}
+use lib.Ieee.{Float, fin, binary32, fits}
 use lib.Ieee.Bits.{ofBits-fits}
 use Rattle.base.specs.Lists.{any, first, count, little, bytes}
 use Rattle.base.specs.Grid.{Place, along, same}

@@ -2,7 +2,7 @@
 -- place of a point by the end that is wet.
 -- Assumes nothing.
 use Prim.Native.Nat.{ℕ, zero, suc, _^_, _<_, _≤_}
-use mathlib.Core.Path.{_≡_, refl, sym, ap, _∙_, subst}
+use mathlib.Core.Path.{_≡_, refl, sym, ap}
 use mathlib.Core.Logic.{_≢_}
 use mathlib.Core.Bool.{Bool, true, false, cond}
 use mathlib.Core.List.{List, [], _∷_}
@@ -14,7 +14,7 @@ use Rattle.base.specs.Grid.{Axis, X, Y, Z, Place, along, axisOf, same}
 use Rattle.base.specs.Lists.{first}
 use Rattle.base.proofs.Places.{same→}
 use Rattle.rules.specs.Survey.{placeOf, wet, cornerAt}
-use Rattle.rules.specs.Edges.{CellEdge, upperEnd, Spot, float, fraction, moving, spot, spotOn}
+use Rattle.rules.specs.Edges.{CellEdge, upperEnd, float, fraction, moving, spot, spotOn}
 use Rattle.rules.specs.declared.Corner.{Corner}
 use Rattle.places.specs.Places.{spotBetween}
 

@@ -1,4 +1,5 @@
-// Corner look-up through one small reader laid over the lent corner bytes: every look-up of a corner by its place goes through `find`. Uses records.
+// Corner look-up through one small reader laid over the lent corner bytes: every look-up of a corner by its place, guessed or not, goes through the reader.
+// Uses records.
 ghost use mathlib.Core.Path.{_≡_};
 ghost use mathlib.Core.Bool.{true};
 ghost use Prim.Native.Nat.{ℕ, _+_, _*_, _≤_, _<_, _/_};
@@ -7,6 +8,8 @@ ghost use Rattle.rules.specs.Survey.{cornerRecord, placeOf};
 ghost use Rattle.rules.specs.Outputs.{rising};
 ghost use Rattle.records.specs.Keys.{keyOf, placesOf, recordAt};
 ghost use Rattle.reader.specs.Ordered.{Ordered};
+
+pub mod hints;
 
 // The lent bytes of a corner table and the number of its records.
 pub struct Reader<'a> {
@@ -51,11 +54,17 @@ fn narrowed(corners: &[u8], count: usize, key: u64, low: usize, size: usize) -> 
     low + smaller * step
 }
 
-// The number of the corner record at the place with this key, by quartering; `count` where there is none.
-fn find_in(corners: &[u8], count: usize, key: u64) -> usize
+// The number of the corner record at the place with this key; `count` where there is none. The caller may guess the record. A guess is believed only if that
+// record has the key; else the search is by quartering. So any number may be guessed.
+fn find_in(corners: &[u8], count: usize, key: u64, guess: usize) -> usize
     requires { ⌜ Ordered (now corners) count ⌝ }
     ensures { λ r. ⌜ r ≡ recordAt (now (corners .entry)) key ⌝ }
 {
+    if guess < count {
+        if records::key_at(corners, guess) == key {
+            return guess;
+        }
+    }
     let mut low: usize = 0;
     let mut size: usize = count;
     while size > 0 {
@@ -81,17 +90,25 @@ pub fn laid<'a>(bytes: &'a [u8]) -> Reader<'a>
 }
 
 // The look-up, by the reader.
-pub fn look_up<'a>(r: Reader<'a>, key: u64) -> usize
+pub fn look_up<'a>(r: Reader<'a>, key: u64, guess: usize) -> usize
     requires { ⌜ Ordered (now (r .bytes)) (r .count) ⌝ }
     ensures { λ s. ⌜ s ≡ recordAt (now (r .entry .bytes)) key ⌝ }
 {
-    find_in(r.bytes, r.count, key)
+    find_in(r.bytes, r.count, key, guess)
 }
 
-// The look-up in plain bytes, through a reader laid over them: whoever calls this one needs no walk by hand.
+// The look-up in plain bytes, through a reader laid over them, with a guess at the record: whoever calls this one needs no walk by hand.
+pub fn find_near(corners: &[u8], key: u64, guess: usize) -> usize
+    requires { ⌜ rising (placesOf (now corners)) ≡ true ⌝ }
+    ensures { λ r. ⌜ r ≡ recordAt (now (corners .entry)) key ⌝ }
+{
+    look_up(laid(corners), key, guess)
+}
+
+// The same without a guess: the number that is handed on is that of no record.
 pub fn find(corners: &[u8], key: u64) -> usize
     requires { ⌜ rising (placesOf (now corners)) ≡ true ⌝ }
     ensures { λ r. ⌜ r ≡ recordAt (now (corners .entry)) key ⌝ }
 {
-    look_up(laid(corners), key)
+    find_near(corners, key, corners.len() / 10)
 }

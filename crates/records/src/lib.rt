@@ -7,7 +7,7 @@ ghost use lib.Ieee.{binary32, ofBits};
 ghost use Rattle.base.specs.Lists.{little, bytes};
 ghost use Rattle.rules.specs.Survey.{entry, cornerRecord, placeOf, wet};
 ghost use Rattle.rules.specs.Outputs.{inRange, rising};
-ghost use Rattle.records.specs.Keys.{keyOf, placesOf, recordAt};
+ghost use Rattle.records.specs.Keys.{keyOf, placesOf};
 use rules::Corner;
 
 // A byte as a wider number, with its bound.

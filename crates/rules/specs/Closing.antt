@@ -1,7 +1,7 @@
 -- Document 01, "What closing says", with demand 3 of the request as the record `Closed`.
-use Prim.Native.Nat.{ℕ, zero, suc, _+_, _*_, _^_, _<_, _≤_}
+use Prim.Native.Nat.{ℕ, zero, suc, _+_, _*_, _<_, _≤_}
 use mathlib.Core.Path.{_≡_}
-use mathlib.Core.Bool.{Bool, true, false, not, _&&_, _||_}
+use mathlib.Core.Bool.{Bool, not, _&&_, _||_}
 use mathlib.Core.List.{List, [], _∷_, map}
 use lib.Dec.{eqb, T}
 use lib.ListN.{length, getD, take, drop}
@@ -9,7 +9,7 @@ use lib.Ieee.{Float}
 use Rattle.base.specs.Lists.{any, keep, collect, distinct, sum, bit}
 use Rattle.base.specs.Grid.{Axis, axes, next, along, pair}
 use Rattle.rules.specs.Survey.{Cell, size, cornersOf, Survey}
-use Rattle.rules.specs.Edges.{CellEdge, edge, upperEnd, sameEdge, undivided, odd, crossed, pointEdges, spotOn, OnEdge}
+use Rattle.rules.specs.Edges.{CellEdge, edge, upperEnd, sameEdge, undivided, odd, pointEdges, spotOn, OnEdge}
 use Rattle.rules.specs.Steps.{Triangle}
 use Rattle.rules.specs.Outputs.{surveyOf, coordinates}
 use Rattle.rules.specs.declared.Drawn.{Drawn}

@@ -1,7 +1,7 @@
 -- Document 01, "Edges, points and places". An edge is given by its axis, its lower end and its level; its length is 2 ^ level.
 use Prim.Native.Nat.{ℕ, zero, suc, _+_, _^_}
-use mathlib.Core.Bool.{Bool, true, false, not, _&&_, _||_, Bool·beq, cond}
-use mathlib.Core.List.{List, [], _∷_, _++_, map}
+use mathlib.Core.Bool.{Bool, false, not, _&&_, _||_, Bool·beq, cond}
+use mathlib.Core.List.{List, map}
 use mathlib.Core.Path.{_≡_}
 use lib.Dec.{eqb, ltb, T}
 use lib.IntN.{pos}

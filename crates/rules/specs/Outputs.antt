@@ -1,5 +1,5 @@
 -- Document 01, "Outputs and refusals": the checks in their order, and what each call gives for every input.
-use Prim.Native.Nat.{ℕ, zero, suc, _+_, _*_, _%_, _^_}
+use Prim.Native.Nat.{ℕ, suc, _+_, _*_, _%_, _^_}
 use mathlib.Core.Bool.{Bool, true, false, not, _&&_, _||_, cond}
 use mathlib.Core.List.{List, [], _∷_, _++_, map}
 use lib.Dec.{eqb, ltb}
@@ -11,7 +11,6 @@ use Rattle.base.specs.Grid.{Place, axisOf, same}
 use Rattle.rules.specs.Survey.{Cell, entries, cellsOf, cellCorners, cornersOf, placeOf, wetAt, Survey}
 use Rattle.rules.specs.Edges.{CellEdge, edge, isEdge, odd, pointEdges, numberOf, carrier, Spot, spotOn, OnEdge}
 use Rattle.rules.specs.Steps.{saddleCut, Triangle, allTriangles}
-use Rattle.rules.specs.declared.Corner.{Corner}
 use Rattle.rules.specs.declared.Edge.the-variants.{Even, Crossing}
 use Rattle.rules.specs.declared.Answer.{Answer}
 use Rattle.rules.specs.declared.Answer.the-variants.{Refused, Found}

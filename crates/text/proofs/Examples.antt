@@ -6,7 +6,7 @@ use Prim.Native.String.{String}
 use Prim.Native.String as S
 use mathlib.Core.Path.{_≡_, refl}
 use mathlib.Core.List.{List, [], _∷_, _++_, map}
-use lib.Ieee.{Float, binary32, ofBits, toBits}
+use lib.Ieee.{binary32, ofBits, toBits}
 use Rattle.base.specs.Lists.{collect}
 use Rattle.rules.specs.declared.Drawn.{Drawn}
 use Rattle.text.specs.Text.{hex, decimalIn, countLine, pointLine, triangleLine, refusal, pointLines, triangleLines, listing}

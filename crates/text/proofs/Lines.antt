@@ -1,16 +1,15 @@
 -- The lines of points and triangles, one more at a time; and the listing by its parts.
 -- Assumes nothing.
 use Prim.Native.Nat.{ℕ, zero, suc, _+_, _*_, _≤_}
-use mathlib.Core.Path.{_≡_, refl, sym, ap, _∙_}
-use mathlib.Core.Bool.{true, false}
-use mathlib.Core.List.{List, [], _∷_, _++_, append-assoc, append-nil}
+use mathlib.Core.Path.{_≡_, sym, ap, _∙_}
+use mathlib.Core.List.{List, [], _∷_, _++_, append-nil}
 use native.Mathlib.Omega.{arith}
 use native.Mathlib.Numerals.{add-one}
-use lib.Dec.{eqb}
-use lib.ListN.{length, getD, take, drop, take-append-drop}
+use lib.ListN.{length, getD, take-append-drop}
 use lib.Ieee.{Float, nan}
 use borrow.Author.Tests.{eq-eqb, ne-eqb}
 use Rattle.base.specs.Lists.{collect, count}
+use Rattle.base.proofs.Lists.{collect-append}
 use Rattle.rules.specs.declared.Drawn.{Drawn}
 use Rattle.text.specs.Text.{countLine, pointLine, triangleLine, refusal, pointLines, triangleLines, listing}
 use Rattle.text.specs.Writing.{writtenAt, Wrote}
@@ -20,15 +19,11 @@ count-more i zero = ap (λ (k : ℕ). k ∷ []) (omega arith)
 count-more i (suc n) = ap (λ (l : List ℕ). i ∷ l) (count-more (suc i) n ∙ ap (λ (k : ℕ). count (suc i) n ++ k ∷ []) (omega arith))
 
 module _ (f : ℕ → List ℕ) where
-  collect-append : (xs ys : List ℕ) → collect f (xs ++ ys) ≡ collect f xs ++ collect f ys
-  collect-append [] ys = refl
-  collect-append (x ∷ xs) ys = ap (λ (l : List ℕ). f x ++ l) (collect-append xs ys) ∙ sym (append-assoc (f x) (collect f xs) (collect f ys))
-
   -- the text of one number more
   collect-more : (n : ℕ) → collect f (count 0 n) ++ f n ≡ collect f (count 0 (n + 1))
   collect-more n =
       ap (λ (l : List ℕ). collect f (count 0 n) ++ l) (sym (append-nil (f n)))
-      ∙ sym (collect-append (count 0 n) (n ∷ []))
+      ∙ sym (collect-append f (count 0 n) (n ∷ []))
       ∙ ap (collect f) (sym (count-more 0 n ∙ ap (λ (k : ℕ). count 0 n ++ k ∷ []) (omega arith)))
       ∙ ap (λ (k : ℕ). collect f (count 0 k)) (sym (add-one n))
 

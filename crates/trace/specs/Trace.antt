@@ -1,29 +1,27 @@
--- What the scratch of one leaf holds of a list of face steps: where a step leads from a point, which points are met, and which blocks of
--- 128 points have one that is. Points are numbers below 14,616; 65,535 stands where no step leaves.
+-- The scratch of one leaf, as one table: what it holds of a list of face steps. Element 0 is how many points the steps meet. Then, for each point v
+-- below a limit, element 3 v + 1 is where a step leads from v, or 65,535 where none leaves it; element 3 v + 2 is 1 if a step meets v, else 65,535; and
+-- element 3 i + 3 is the point that was met after i others. So a table of 65,535 throughout, with 0 in front, holds no step.
 -- Assumes nothing: these are definitions.
 use mathlib.Core.Path.{_≡_}
-use mathlib.Core.Bool.{Bool, true, _||_, cond}
+use mathlib.Core.Bool.{Bool, true, false, _&&_, _||_, cond}
 use mathlib.Core.List.{List, [], _∷_}
-use Prim.Native.Nat.{ℕ, _<_, _/_}
-use lib.Dec.{eqb}
+use Prim.Native.Nat.{ℕ, _+_, _*_, _≤_, _<_}
+use lib.Dec.{eqb, ltb}
 use lib.ListN.{length, getD, set}
-use Rattle.base.specs.Lists.{any, first, bit}
-use Rattle.rules.specs.Steps.{Step}
+use Rattle.base.specs.Lists.{any, first}
+use Rattle.rules.specs.Steps.{Step, met}
 
--- the three tables
-pub record Trace : Type 0 where
-  pub nexts : List ℕ
-  pub marks : List ℕ
-  pub blocks : List ℕ
+abbrev pub nextAt : List ℕ → ℕ → ℕ
+nextAt t v = getD t (3 * v + 1) 0
 
-abbrev pub trace : List ℕ → List ℕ → List ℕ → Trace
-trace nexts marks blocks = record { nexts = nexts; marks = marks; blocks = blocks }
+abbrev pub markAt : List ℕ → ℕ → ℕ
+markAt t v = getD t (3 * v + 2) 0
 
--- the tables are as long as the code has them
-pub record Sized (t : Trace) : Type 0 where
-  pub points : length (t .nexts) ≡ 14616
-  pub same : length (t .marks) ≡ 14616
-  pub groups : length (t .blocks) ≡ 128
+abbrev pub metAt : List ℕ → ℕ → ℕ
+metAt t i = getD t (3 * i + 3) 0
+
+abbrev pub metCount : List ℕ → ℕ
+metCount t = getD t 0 0
 
 -- a step meets v
 abbrev pub meets : List Step → ℕ → Bool
@@ -33,33 +31,41 @@ meets ss v = any (λ t. eqb v (t .0) || eqb v (t .1)) ss
 abbrev pub endFrom : List Step → ℕ → ℕ
 endFrom ss v = (first (λ t. eqb v (t .0)) (v, 65535) ss) .1
 
--- the tables hold the steps ss
-pub record Traced (ss : List Step) (t : Trace) : Type 0 where
-  pub sized : Sized t
-  -- the steps join points below 14,616
-  pub within : (v : ℕ) → meets ss v ≡ true → v < 14616
-  pub next : (v : ℕ) → v < 14616 → getD (t .nexts) v 0 ≡ endFrom ss v
-  pub mark : (v : ℕ) → v < 14616 → getD (t .marks) v 0 ≡ bit (meets ss v)
-  pub block : (v : ℕ) → v < 14616 → getD (t .marks) v 0 ≡ 1 → getD (t .blocks) (v / 128) 0 ≡ 1
+-- the mark of a point that is met, or not
+abbrev pub markOf : Bool → ℕ
+markOf true = 1
+markOf false = 65535
+
+-- the table, for points below a limit, holds the steps ss
+pub record Traced (limit : ℕ) (ss : List Step) (t : List ℕ) : Type 0 where
+  pub room : length t ≡ 3 * limit + 1
+  pub small : limit ≤ 14616
+  -- the steps join points below the limit
+  pub within : (v : ℕ) → meets ss v ≡ true → v < limit
+  pub next : (v : ℕ) → v < limit → nextAt t v ≡ endFrom ss v
+  pub mark : (v : ℕ) → v < limit → markAt t v ≡ markOf (meets ss v)
+  -- the points met are listed, each once
+  pub counted : metCount t ≡ length (met ss limit)
+  pub listed : (v : ℕ) → meets ss v ≡ true → (i : ℕ) × (i < metCount t) × (metAt t i ≡ v)
+  pub lists : (i : ℕ) → i < metCount t → metAt t i < limit
 
 -- ---- recording
 
 -- the end of a step from a, which counts only where none left a before
 abbrev pub leaveAt : List ℕ → ℕ → ℕ → List ℕ
-leaveAt nexts a b = cond (eqb (getD nexts a 0) 65535) (set nexts a b) nexts
+leaveAt t a b = cond (eqb (nextAt t a) 65535) (set t (3 * a + 1) b) t
 
--- the tables with one step more: its end is kept at the point that it leaves, and both its points are marked, one after the other
-abbrev pub recordOne : Step → Trace → Trace
-recordOne s t =
-    trace (leaveAt (t .nexts) (s .0) (s .1)) (set (set (t .marks) (s .0) 1) (s .1) 1) (set (set (t .blocks) (s .0 / 128) 1) (s .1 / 128) 1)
+-- a point, which is listed only where it was not met before and there is room
+abbrev pub meetAt : List ℕ → ℕ → List ℕ
+meetAt t v =
+    let new = set (set (set t (3 * v + 2) 1) (3 * metCount t + 3) v) 0 (metCount t + 1) in
+    cond (eqb (markAt t v) 65535 && ltb (3 * metCount t + 3) (length t)) new t
 
--- the tables with steps recorded one after the other
-abbrev pub recorded : List Step → Trace → Trace
+-- one step more
+abbrev pub recordOne : Step → List ℕ → List ℕ
+recordOne s t = meetAt (meetAt (leaveAt t (s .0) (s .1)) (s .0)) (s .1)
+
+-- steps one after the other
+abbrev pub recorded : List Step → List ℕ → List ℕ
 recorded [] t = t
 recorded (s ∷ ss) t = recorded ss (recordOne s t)
-
--- what a call has done that records steps: just that, to tables of their length, of steps that join points below 14,616
-pub record Recorded (new : List Step) (before after : Trace) : Type 0 where
-  pub is : after ≡ recorded new before
-  pub sized : Sized after
-  pub within : (v : ℕ) → meets new v ≡ true → v < 14616

@@ -1,11 +1,10 @@
-// The scratch of one leaf: the face steps, as a table of next points, marks of the points met, and a flag for each block of 128 points.
+// The scratch of one leaf, in one table: where the face steps lead from each point, which points they meet, and a list of these. Uses rules.
 ghost use mathlib.Core.Path.{_≡_};
-ghost use mathlib.Core.List.{[], _∷_};
-ghost use Prim.Native.Nat.{_<_, _/_};
-ghost use lib.ListN.{length, set};
-ghost use Rattle.trace.specs.Trace.{trace, Sized, Recorded, leaveAt};
+ghost use Prim.Native.Nat.{_+_, _*_, _≤_, _<_};
+ghost use lib.ListN.{length};
+ghost use Rattle.trace.specs.Trace.{leaveAt, meetAt, recordOne};
 
-// A point number as an index.
+// A number of the table as an index.
 pub fn wide(v: u16) -> usize
     ensures { λ r. ⌜ r ≡ v ⌝ }
 {
@@ -13,35 +12,41 @@ pub fn wide(v: u16) -> usize
 }
 
 // A step leaves `from`: its end is kept unless one left there before.
-fn leave(nexts: &mut [u16], from: u16, to: u16)
-    requires { ⌜ from < length (now nexts) ⌝ }
-    ensures { λ _. ⌜ now (nexts .exit) ≡ leaveAt (now (nexts .entry)) from to ⌝ }
+fn leave(trace: &mut [u16], from: u16, to: u16)
+    requires { ⌜ 3 * from + 1 < length (now trace) ⌝ }
+    ensures { λ _. ⌜ now (trace .exit) ≡ leaveAt (now (trace .entry)) from to ⌝ }
 {
-    let at = wide(from);
-    if nexts[at] == 65535 {
-        nexts[at] = to;
+    let at = 3 * wide(from) + 1;
+    if trace[at] == 65535 {
+        trace[at] = to;
     }
 }
 
-// A step meets `v`.
-fn meet(marks: &mut [u8], blocks: &mut [u8], v: u16)
-    requires { ⌜ (v < length (now marks)) × (v / 128 < length (now blocks)) ⌝ }
-    ensures { λ _. ⌜ (now (marks .exit) ≡ set (now (marks .entry)) v 1) × (now (blocks .exit) ≡ set (now (blocks .entry)) (v / 128) 1) ⌝ }
+// A step meets `v`: it is marked, and listed, unless one met it before.
+fn meet(trace: &mut [u16], v: u16)
+    requires { ⌜ (3 * v + 2 < length (now trace)) × (length (now trace) ≤ 43849) ⌝ }
+    ensures { λ _. ⌜ now (trace .exit) ≡ meetAt (now (trace .entry)) v ⌝ }
 {
-    let at = wide(v);
-    marks[at] = 1;
-    blocks[at / 128] = 1;
+    let at = 3 * wide(v) + 2;
+    if trace[at] != 65535 {
+        return;
+    }
+    let count = trace[0];
+    let end = 3 * wide(count) + 3;
+    if end >= trace.len() {
+        return;
+    }
+    trace[at] = 1;
+    trace[end] = v;
+    trace[0] = count + 1;
 }
 
-// Records one face step, after those that the tables hold.
-pub fn record_step(nexts: &mut [u16], marks: &mut [u8], blocks: &mut [u8], from: u16, to: u16)
-    requires { ⌜ Sized (trace (now nexts) (now marks) (now blocks)) ⌝ }
-    requires { ⌜ (from < 14616) × (to < 14616) ⌝ }
-    ensures { λ _. ⌜ Recorded ((from, to) ∷ [])
-        (trace (now (nexts .entry)) (now (marks .entry)) (now (blocks .entry)))
-        (trace (now (nexts .exit)) (now (marks .exit)) (now (blocks .exit))) ⌝ }
+// Records one face step, after those that the table holds.
+pub fn record_step(trace: &mut [u16], from: u16, to: u16)
+    requires { ⌜ (3 * from + 2 < length (now trace)) × (3 * to + 2 < length (now trace)) × (length (now trace) ≤ 43849) ⌝ }
+    ensures { λ _. ⌜ now (trace .exit) ≡ recordOne (from, to) (now (trace .entry)) ⌝ }
 {
-    leave(nexts, from, to);
-    meet(marks, blocks, from);
-    meet(marks, blocks, to);
+    leave(trace, from, to);
+    meet(trace, from);
+    meet(trace, to);
 }

@@ -171,6 +171,15 @@ fn loops_of_many_hundred_points() {
     }
 }
 
+/// Over 10,240 triangles have no room in the scratch, and their leaves are drawn a second time.
+#[test]
+fn more_triangles_than_the_scratch_holds() {
+    let survey = generate::survey(363);
+    let (counts, ..) = assert_same(&survey, 0, 0, "many triangles");
+    assert!(counts.triangles > 10_240, "{} triangles", counts.triangles);
+    assert_drawn(&survey, closing::check, "many triangles");
+}
+
 #[test]
 fn damaged_surveys_touch_nothing() {
     for seed in 0..small() {

@@ -1,66 +1,63 @@
 -- `cells::put_children` meets its contract: before each turn the first i children are written, and all else is as it was.
-use Prim.Native.Nat.{ℕ}
-use mathlib.Core.Path.{_∙_, ap, refl}
-use Rattle.cells.proofs.Written.{written-turn}
-use lib.ListN.{length-set}
-use Prim.Native.Nat.{_+_, _-_, _≤_}
-use mathlib.Core.Path.{_≡_}
-use lib.ListN.{length}
+use Prim.Native.Nat.{ℕ, _+_, _-_, _*_, _≤_}
+use mathlib.Core.Path.{_≡_, refl, ap, _∙_}
 use native.Mathlib.Omega.{arith}
+use lib.ListN.{length, length-set}
 use Rattle.cells.specs.Laid.{octantKey, writtenAt}
 use Rattle.cells.proofs.Octants.{octant-key-le, size-fits}
-use Rattle.cells.proofs.Written.{written-none}
+use Rattle.cells.proofs.Written.{written-none, written-turn}
 use borrow.Author.Needs.{needs}
 use Rattle.cells.proofs.put_children.Statement.{statement}
 use Rattle.cells.proofs.put_children.Tie as tie
 
 abbrev Inv-loop : tie.InvT-loop
-Inv-loop keys₀ levels₀ at key level size i₀ keys levels i =
-    (i ≤ 8) × (length keys ≡ length keys₀) × (length levels ≡ length levels₀)
-    × (keys ≡ writtenAt (λ j. key + octantKey j size) at i keys₀) × (levels ≡ writtenAt (λ j. level) at i levels₀)
+Inv-loop laid₀ at key level size i₀ laid i =
+    (i ≤ 8) × (length laid ≡ length laid₀) × (laid ≡ writtenAt (λ j. key + octantKey j size + 281474976710656 * level) at i laid₀)
 
 abbrev μ-loop : tie.MeasureT-loop
-μ-loop keys₀ levels₀ at key level size i₀ keys levels i = 8 - i
+μ-loop laid₀ at key level size i₀ laid i = 8 - i
 
 size-of-requires : tie.Need-size-of-requires Inv-loop μ-loop
 size-of-requires c κs = search needs
 
 loop-holds : tie.Need-loop-holds Inv-loop μ-loop
 loop-holds c =
-    let a = c .before .before .before .args in (
-      omega arith,
-      refl,
-      refl,
-      written-none (λ j. a .key + octantKey j (c .size-of .result)) (a .at) (a .keys .now),
-      written-none (λ j. a .level)
-          (a .at) (a .levels .now),
-    )
+    let a = c .before .before .args in
+    (omega arith, refl, written-none (λ j. a .key + octantKey j (c .size-of .result) + 281474976710656 * a .level) (a .at) (a .laid .now))
 
 octant-key-requires : tie.Need-octant-key-requires Inv-loop μ-loop
 octant-key-requires c κs =
     let s = c .before .before in
-    (omega arith, omega (arith, size-fits (s .before .before .before .args .level) (omega arith)))
+    (omega arith, omega (arith, size-fits (s .before .before .args .level) (omega arith)))
 
-add-keys : tie.Need-add-keys Inv-loop μ-loop
-add-keys c =
+-- how far the key of a child is above the cell's
+near : (c : tie.After-octant-key Inv-loop μ-loop) → c .octant-key .result ≤ 4398113620992
+near c =
     let s = c .before .before .before in
-    let a = s .before .before .before in
-    omega (arith, octant-key-le (c .before .before .loop .i) (s .size-of .result) (omega arith) (omega (arith, size-fits (a .args .level) (omega arith))))
+    let a = s .before .before in
+    omega (
+      arith,
+      octant-key-le (c .before .before .loop .i) (s .size-of .result) (omega arith) (omega (arith, size-fits (a .args .level) (omega arith))),
+      c .octant-key .ensures,
+    )
 
-add-keys-2 : tie.Need-add-keys-2 Inv-loop μ-loop
-add-keys-2 c = search needs
+add-laid : tie.Need-add-laid Inv-loop μ-loop
+add-laid c = omega (arith, near c)
 
-mul-keys : tie.Need-mul-keys Inv-loop μ-loop
-mul-keys c = search needs
+mul-laid : tie.Need-mul-laid Inv-loop μ-loop
+mul-laid c = search needs
 
-slice-write-keys : tie.Need-slice-write-keys Inv-loop μ-loop
-slice-write-keys c = search needs
+add-laid-2 : tie.Need-add-laid-2 Inv-loop μ-loop
+add-laid-2 c = omega (arith, near c)
 
-add-levels : tie.Need-add-levels Inv-loop μ-loop
-add-levels c = search needs
+add-laid-3 : tie.Need-add-laid-3 Inv-loop μ-loop
+add-laid-3 c = search needs
 
-slice-write-levels : tie.Need-slice-write-levels Inv-loop μ-loop
-slice-write-levels c = search needs
+mul-laid-2 : tie.Need-mul-laid-2 Inv-loop μ-loop
+mul-laid-2 c = search needs
+
+slice-write-laid : tie.Need-slice-write-laid Inv-loop μ-loop
+slice-write-laid c = search needs
 
 add-i : tie.Need-add-i Inv-loop μ-loop
 add-i c = search needs
@@ -72,35 +69,28 @@ loop-again : tie.Need-loop-again Inv-loop μ-loop
 loop-again c =
     let l = c .before .before in
     let s = l .before in
-    let a = s .before .before .before .args in
+    let a = s .before .before .args in
     let size = s .size-of .result in
     let v = l .loop .inv in
     let i = l .loop .i in (
       search needs,
-      length-set (l .loop .keys) (a .at + i) (a .key + c .octant-key .result) ∙ v .1,
-      length-set (l .loop .levels) (a .at + i) (a .level) ∙ v .2,
-      written-turn (λ j. a .key + octantKey j size) (a .at) i _ (l .loop .keys) (a .keys .now) (v .3) (ap (λ (k : ℕ). a .key + k)
-          (c .octant-key .ensures)) (omega arith),
-      written-turn (λ j. a .level) (a .at) i (a .level) (l .loop .levels) (a .levels .now) (v .4) refl (omega arith),
+      length-set (l .loop .laid) (a .at + i) _ ∙ v .1,
+      written-turn (λ j. a .key + octantKey j size + 281474976710656 * a .level) (a .at) i _ (l .loop .laid) (a .laid .now) (v .2)
+          (ap (λ (k : ℕ). a .key + k + 281474976710656 * a .level) (c .octant-key .ensures)) (omega arith),
     )
 
 same-length : tie.Need-same-length Inv-loop μ-loop
 same-length c = search needs
 
-same-length-2 : tie.Need-same-length-2 Inv-loop μ-loop
-same-length-2 c = search needs
-
 returns : tie.Need-returns Inv-loop μ-loop
 returns c =
     let l = c .before in
     let s = l .before in
-    let a = s .before .before .before .args in
-    let v = l .loop .inv in
-    let end : l .loop .i ≡ 8 = omega arith in (
-      v .3 ∙ ap (λ (m : ℕ). writtenAt (λ j. a .key + octantKey j (s .size-of .result)) (a .at) m (a .keys .now)) end
-          ∙ ap (λ (m : ℕ). writtenAt (λ j. a .key + octantKey j m) (a .at) 8 (a .keys .now)) (s .size-of .ensures),
-      v .4 ∙ ap (λ (m : ℕ). writtenAt (λ j. a .level) (a .at) m (a .levels .now)) end,
-    )
+    let a = s .before .before .args in
+    let end : l .loop .i ≡ 8 = omega arith in
+    l .loop .inv .2 ∙
+    ap (λ (m : ℕ). writtenAt (λ j. a .key + octantKey j (s .size-of .result) + 281474976710656 * a .level) (a .at) m (a .laid .now)) end ∙
+    ap (λ (m : ℕ). writtenAt (λ j. a .key + octantKey j m + 281474976710656 * a .level) (a .at) 8 (a .laid .now)) (s .size-of .ensures)
 
 pub put-children-spec : {M : Type 1} → statement M
 put-children-spec =
@@ -111,15 +101,14 @@ put-children-spec =
     size-of-requires
     loop-holds
     octant-key-requires
-    add-keys
-    add-keys-2
-    mul-keys
-    slice-write-keys
-    add-levels
-    slice-write-levels
+    add-laid
+    mul-laid
+    add-laid-2
+    add-laid-3
+    mul-laid-2
+    slice-write-laid
     add-i
     loop-less
     loop-again
     same-length
-    same-length-2
     returns)

@@ -9,14 +9,17 @@ slice-aggregate-read c = search needs
 slice-aggregate-read-2 : tie.Need-slice-aggregate-read-2
 slice-aggregate-read-2 c = search needs
 
-slice-aggregate-read-3 : tie.Need-slice-aggregate-read-3
-slice-aggregate-read-3 c = search needs
-
 read-requires : tie.Need-read-requires
 read-requires c κs = search needs
 
 returns : tie.Need-returns
-returns c = c .before .before .before .read .ensures .0
+returns c = c .before .before .read .ensures .0
 
 pub check-spec : {M : Type 1} → statement M
-check-spec = tie.close (tie.spec slice-aggregate-read slice-aggregate-read-2 slice-aggregate-read-3 read-requires returns)
+check-spec =
+    tie.close
+    (tie.spec
+    slice-aggregate-read
+    slice-aggregate-read-2
+    read-requires
+    returns)

@@ -25,11 +25,11 @@ mark-all-requires c κs = search needs
 returns : tie.Need-returns
 returns c =
     let m = c .before .before in
-    let s = m .before .before .before .before .before .before .before in
+    let s = m .before .before .before .before .before .before in
     let tk = s .args .corners .now in
     let n = length tk / 10 in
-    let table = table-is tk (s .args .keys .now) (s .args .levels .now) (s .args .octants .now) _ (s .pre .1 .1 .1 .1) (omega arith) in
-    one-missing (s .args .cells .now) tk (s .args .keys .now) (s .args .levels .now) (s .pre .0) (s .pre .1 .0) (m .before .before .before .shared-slice-known4 .given) n refl
+    let table = table-is tk (s .args .laid .now) (s .args .octants .now) _ (s .pre .1 .1 .1 .1) (omega arith) in
+    one-missing (s .args .cells .now) tk (s .args .laid .now) (s .pre .0) (s .pre .1 .0) (m .before .before .before .shared-slice-known3 .given) n refl
     (sym (m .mark-all .ensures .0 ∙ ap (all (λ k. ltb k n)) table) ∙ not-true (m .mark-all .result) (c .if1 .taken))
 
 slice-aggregate-all-marked : tie.Need-slice-aggregate-all-marked
@@ -41,13 +41,13 @@ all-marked-requires c κs = search needs
 returns-2 : tie.Need-returns-2
 returns-2 c =
     let m = c .before .before .before .before in
-    let s = m .before .before .before .before .before .before .before in
+    let s = m .before .before .before .before .before .before in
     let tk = s .args .corners .now in
     let n = length tk / 10 in
-    let table = table-is tk (s .args .keys .now) (s .args .levels .now) (s .args .octants .now) _ (s .pre .1 .1 .1 .1) (omega arith) in
+    let table = table-is tk (s .args .laid .now) (s .args .octants .now) _ (s .pre .1 .1 .1 .1) (omega arith) in
     let there = not-false (m .mark-all .result) (c .before .before .if1 .left) in
     c .all-marked .ensures ∙
-    none-missing-made (s .args .cells .now) tk (s .args .keys .now) (s .args .levels .now) (s .pre .0) (s .pre .1 .0) (m .before .before .before .shared-slice-known4 .given) n refl
+    none-missing-made (s .args .cells .now) tk (s .args .laid .now) (s .pre .0) (s .pre .1 .0) (m .before .before .before .shared-slice-known3 .given) n refl
     (s .pre .1 .1 .1 .0) 4872 _ (omega arith) (sym (m .mark-all .ensures .0 ∙ ap (all (λ k. ltb k n)) table) ∙ there)
     (m .mark-all .ensures .1 there ∙ ap (λ ks. marked ks (replicate 4872 0)) table)
 

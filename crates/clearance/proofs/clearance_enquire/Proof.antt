@@ -1,4 +1,4 @@
--- `clearance::clearance_enquire` meets its contract: what `edges::enquire` and `reply_of` promise, one after the other; and the reply tells it.
+-- `clearance::clearance_enquire` meets its contract: what `enquiry::enquire` and `reply_of` promise, one after the other; and the reply tells it.
 use mathlib.Core.Path.{_∙_, ap, sym, subst}
 use borrow.Author.Needs.{needs}
 use Rattle.base.specs.Grid.{Place}

@@ -4,45 +4,50 @@ use borrow.Author.Needs.{needs}
 use Rattle.drawing.proofs.fill_tables.Statement.{statement}
 use Rattle.drawing.proofs.fill_tables.Tie as tie
 
+-- from each call to the one before it
+abbrev start : tie.After-fill-wets → tie.Start
+start c = c .before .before .before .before .before .before .before .before .before .before
+
+abbrev marked : tie.After-fill-levels → tie.After-fill-wets
+marked c = c .before .before .before .before
+
+abbrev levelled : tie.After-number-slots → tie.After-fill-levels
+levelled c = c .before .before .before .before .before .before
+
+abbrev numbered : tie.After-fill → tie.After-number-slots
+numbered c = c .before .before .before .before .before .before .before .before .before
+
 fill-wets-requires : tie.Need-fill-wets-requires
 fill-wets-requires c κs =
-    let s = c .before .before .before .before .before .before .before .before .before .before .before in
-    let a = s .args in
-    (corners-rise (a .cells .now) (a .corners .now) (a .clearance) (s .pre .0), (s .pre .1 .1 .1 .0, few-corners (a .cells .now) (a .corners .now) (a .clearance) (s .pre .0)))
-
-slice-aggregate-fill-levels : tie.Need-slice-aggregate-fill-levels
-slice-aggregate-fill-levels c = search needs
+    let s = c .before .before .before .before .before .before .before .before .before in
+    let a = s .args in (
+      corners-rise (a .cells .now) (a .corners .now) (a .clearance) (s .pre .0),
+      (s .pre .1 .1 .1 .0, few-corners (a .cells .now) (a .corners .now) (a .clearance) (s .pre .0)),
+    )
 
 fill-levels-requires : tie.Need-fill-levels-requires
 fill-levels-requires c κs =
-    let s = c .before .before .before .before .before .before .before .before .before .before .before .before .before .before .before .before .before in
+    let s = start (c .before .before .before) in
     let a = s .args in
-    (unrefused (a .cells .now) (a .corners .now) (a .clearance) (s .pre .0), (s .pre .1 .0 .1, (s .pre .1 .0 .0, s .pre .1 .1 .0)))
+    let (laid, room, octants) = s .pre .1 .0 in
+    (unrefused (a .cells .now) (a .corners .now) (a .clearance) (s .pre .0), (octants, ((laid, room), s .pre .1 .1 .0)))
 
 number-slots-requires : tie.Need-number-slots-requires
 number-slots-requires c κs =
-    let s = c .before .before .before .before .before .before .before .before .before .before .before .before .before .before .before .before .before .before .before .before .before .before .before .before .before .before .before .before in
-    let level = c .before .before .before .before .before .before .before .before .before .before .fill-levels .ensures in
-    let room = s .pre .1 .1 .1 in
-    (s .pre .0, (c .before .before .before .before .before .before .before .before .before .before .before .before .before .before .before .before .fill-wets .ensures, (level .low, (level .ends, (room .1, room .2)))))
+    let l = c .before .before .before .before .before in
+    let s = start (marked l) in
+    (s .pre .0, (marked l .fill-wets .ensures, (l .fill-levels .ensures, s .pre .1 .1 .1 .1)))
 
-slice-aggregate-fill-twins : tie.Need-slice-aggregate-fill-twins
-slice-aggregate-fill-twins c = search needs
-
-fill-twins-requires : tie.Need-fill-twins-requires
-fill-twins-requires c κs =
-    let s = c .before .before .before .before .before .before .before .before .before .before .before .before .before .before .before .before .before .before .before .before .before .before .before .before .before .before .before .before .before .before .before .before .before .before .before .before .before .before .before .before in
-    let level = c .before .before .before .before .before .before .before .before .before .before .before .before .before .before .before .before .before .before .before .before .before .before .fill-levels .ensures in
-    let number = c .before .before .before .before .before .before .before .before .before .before .before .number-slots .ensures in (
-      s .pre .0,
-      (
-        c .before .before .before .before .before .before .before .before .before .before .before .before .before .before .before .before .before .before .before .before .before .before .before .before .before .before .before .before .fill-wets .ensures,
-        (level .low, (level .high, (level .ends, (number .1 .0, (number .1 .1, (number .0, s .pre .1 .1 .1 .3)))))),
-      ),
-    )
+fill-requires : tie.Need-fill-requires
+fill-requires c κs =
+    let n = c .before .before .before .before .before .before .before .before in
+    let w = marked (levelled n) in
+    let s = start w in
+    let (count, (numbers, carriers)) = n .number-slots .ensures in
+    (s .pre .0, (w .fill-wets .ensures, (numbers, (carriers, (count, s .pre .1 .1 .1 .2)))))
 
 same-length : tie.Need-same-length
-same-length c = search (needs, c .before .before .before .before .before .before .before .before .before .before .before .before .before .before .before .before .before .before .before .before .before .before .before .before .before .before .before .before .before .before .wets .given)
+same-length c = search needs
 
 same-length-2 : tie.Need-same-length-2
 same-length-2 c = search needs
@@ -53,40 +58,23 @@ same-length-3 c = search needs
 same-length-4 : tie.Need-same-length-4
 same-length-4 c = search needs
 
-same-length-5 : tie.Need-same-length-5
-same-length-5 c = search needs
-
-same-length-6 : tie.Need-same-length-6
-same-length-6 c = search needs
-
 returns : tie.Need-returns
 returns c =
-    let level = c .before .before .before .before .before .before .before .before .before .before .before .before .before .before .before .before .before .before .before .before .before .before .before .before .before .fill-levels .ensures in
-    let number = c .before .before .before .before .before .before .before .before .before .before .before .before .before .before .number-slots .ensures in
-    record {
-      wet = c .before .before .before .before .before .before .before .before .before .before .before .before .before .before .before .before .before .before .before .before .before .before .before .before .before .before .before .before .before .before .before .fill-wets .ensures;
-      low = level .low;
-      end = level .ends;
-      number = number .1 .0;
-      slot = number .1 .1;
-      twin = c .before .before .fill-twins .ensures;
-      count = number .0;
-    }
+    let t = c .before .before in
+    let n = numbered t in
+    let (count, (numbers, carriers)) = n .number-slots .ensures in
+    record { wet = marked (levelled n) .fill-wets .ensures; slot = numbers; carrier = carriers; twin = t .fill .ensures; count = count }
 
 pub fill-tables-spec : {M : Type 1} → statement M
 fill-tables-spec =
     tie.close
     (tie.spec
     fill-wets-requires
-    slice-aggregate-fill-levels
     fill-levels-requires
     number-slots-requires
-    slice-aggregate-fill-twins
-    fill-twins-requires
+    fill-requires
     same-length
     same-length-2
     same-length-3
     same-length-4
-    same-length-5
-    same-length-6
     returns)

@@ -1,93 +1,86 @@
 -- `edges::edge_record` meets its contract: the record at the place, and the levels there, say whether some cell has the edge.
-use Rattle.edges.proofs.Twins.{nowhere, at-place, sought-miss, sought-hit}
-use Rattle.edges.proofs.Readings.{corners}
-use Rattle.base.specs.Grid.{axisOf}
+use Prim.Native.Nat.{_+_, _*_, _/_, _<_}
+use mathlib.Core.Path.{_≡_}
 use mathlib.Core.Logic.{inl, inr}
 use native.Mathlib.Omega.{arith}
+use lib.ListN.{length}
+use Rattle.base.specs.Grid.{Place, axisOf}
+use Rattle.records.specs.Keys.{keyOf, placesOf, Short}
+use Rattle.edges.specs.Tables.{placeAt}
+use Rattle.edges.proofs.Seeking.{nowhere, at-place, sought-miss, sought-hit}
+use Rattle.edges.proofs.Readings.{corners}
 use borrow.Author.Needs.{needs}
 use Rattle.edges.proofs.edge_record.Statement.{statement}
 use Rattle.edges.proofs.edge_record.Tie as tie
 
+abbrev start : tie.After-find → tie.Start
+start f = f .before .before .before .before
+
 find-requires : tie.Need-find-requires
 find-requires c κs =
-    let s = c .before .before .before .before in
-    let tc = s .args .cells .now in
-    let tk = s .args .corners .now in
-    let v = s .args .clearance in
-    corners tc tk v (s .pre .0) .rises
+    let s = c .before .before .before in
+    corners (s .args .cells .now) (s .args .corners .now) (s .args .clearance) (s .pre .0) .rises
 
 returns : tie.Need-returns
 returns c =
-    let s = c .before .before .before .before .before .before in
-    let tc = s .args .cells .now in
-    let tk = s .args .corners .now in
-    let v = s .args .clearance in
+    let f = c .before in
+    let s = start f in
     λ p w e. record {
       found = λ x. absurd (omega arith);
-      none = λ x. nowhere tc tk v (s .pre .0) (c .before .before .before .before .shared-slice-known2 .given) (axisOf (s .args .axis)) p (s .args .level)
-          (s .args .key) (c .before .find .result) e (c .before .find .ensures) (c .if1 .taken);
+      none = λ x. nowhere (s .args .cells .now) (s .args .corners .now) (s .args .clearance) (s .pre .0) (f .before .before .shared-slice-known2 .given)
+          (axisOf (s .args .axis)) p (s .args .level) (s .args .key) (f .find .result) e (f .find .ensures) (c .if1 .taken);
     }
 
-mul-at : tie.Need-mul-at
-mul-at c = search needs
+-- a record is found
+module _ (c : tie.Else1) where
+  abbrev s : tie.Start
+  s = start (c .before)
 
-add-at : tie.Need-add-at
-add-at c = search needs
+  inside : c .before .find .result < length (start (c .before) .args .corners .now) / 10
+  inside = omega arith
 
-shared-slice-read-if2 : tie.Need-shared-slice-read-if2
-shared-slice-read-if2 c =
-    let s = c .before .before .before .before .before .before .before in
-    let tc = s .args .cells .now in
-    let tk = s .args .corners .now in
-    let v = s .args .clearance in
-    omega (arith, s .pre .1 .0 .size, corners tc tk v (s .pre .0) .few)
+  slot-inside : 4872 * start (c .before) .args .axis + c .before .find .result < 14616
+  slot-inside = omega (arith, inside, s .pre .1 .1, corners (s .args .cells .now) (s .args .corners .now) (s .args .clearance) (s .pre .0) .few)
+
+  place-is : (p : Place) → Short p → start (c .before) .args .key ≡ keyOf p → placeAt (placesOf (start (c .before) .args .corners .now))
+      (c .before .find .result) ≡ p
+  place-is p w e =
+      at-place (s .args .cells .now) (s .args .corners .now) (s .args .clearance) (s .pre .0) (c .before .before .before .shared-slice-known2 .given)
+      (axisOf (s .args .axis)) p (s .args .level) (s .args .key) (c .before .find .result) e (c .before .find .ensures) w inside
+
+mul-slot : tie.Need-mul-slot
+mul-slot c = search needs
+
+add-slot : tie.Need-add-slot
+add-slot c = search needs
+
+lowest-requires : tie.Need-lowest-requires
+lowest-requires c κs = (start (c .before) .pre .1 .0 .size, slot-inside c)
 
 returns-2 : tie.Need-returns-2
 returns-2 c =
-    let s = c .before .before .before .before .before .before .before .before in
-    let tc = s .args .cells .now in
-    let tk = s .args .corners .now in
-    let v = s .args .clearance in
-    let f = c .before .before .before in
-    let d = f .before .before .before .shared-slice-known2 .given in
-    λ p w e. sought-miss tc tk v (s .pre .0) (s .args .lowest .now) (s .args .highest .now) (s .pre .1 .0) (s .pre .1 .1 .0) (s .args .axis)
-    (f .find .result) (s .args .level) (s .pre .1 .1 .1) (omega arith) p
-    (at-place tc tk v (s .pre .0) d (axisOf (s .args .axis)) p (s .args .level) (s .args .key) (f .find .result) e (f .find .ensures) w (omega arith))
-    (inl (c .if2 .taken))
+    let f = c .before .before in
+    let s = start (f .before) in
+    λ p w e. sought-miss (s .args .cells .now) (s .args .corners .now) (s .args .clearance) (s .pre .0) (s .args .slots .now) (s .pre .1 .0) (s .args .axis)
+    (f .before .find .result) (s .args .level) (s .pre .1 .1) (inside f) p (place-is f p w e) (inl (omega (arith, c .before .lowest .ensures)))
 
-shared-slice-read-if3 : tie.Need-shared-slice-read-if3
-shared-slice-read-if3 c =
-    let s = c .before .before .before .before .before .before .before .before .before in
-    let tc = s .args .cells .now in
-    let tk = s .args .corners .now in
-    let v = s .args .clearance in
-    omega (arith, s .pre .1 .1 .0 .size, corners tc tk v (s .pre .0) .few)
+highest-requires : tie.Need-highest-requires
+highest-requires c κs = (start (c .before .before .before) .pre .1 .0 .size, slot-inside (c .before .before))
 
 returns-3 : tie.Need-returns-3
 returns-3 c =
-    let s = c .before .before .before .before .before .before .before .before .before .before in
-    let tc = s .args .cells .now in
-    let tk = s .args .corners .now in
-    let v = s .args .clearance in
-    let f = c .before .before .before .before .before in
-    let d = f .before .before .before .shared-slice-known2 .given in
-    λ p w e. sought-miss tc tk v (s .pre .0) (s .args .lowest .now) (s .args .highest .now) (s .pre .1 .0) (s .pre .1 .1 .0) (s .args .axis)
-    (f .find .result) (s .args .level) (s .pre .1 .1 .1) (omega arith) p
-    (at-place tc tk v (s .pre .0) d (axisOf (s .args .axis)) p (s .args .level) (s .args .key) (f .find .result) e (f .find .ensures) w (omega arith))
-    (inr (c .if3 .taken))
+    let f = c .before .before .before .before in
+    let s = start (f .before) in
+    λ p w e. sought-miss (s .args .cells .now) (s .args .corners .now) (s .args .clearance) (s .pre .0) (s .args .slots .now) (s .pre .1 .0) (s .args .axis)
+    (f .before .find .result) (s .args .level) (s .pre .1 .1) (inside f) p (place-is f p w e) (inr (omega (arith, c .before .highest .ensures)))
 
 returns-4 : tie.Need-returns-4
 returns-4 c =
-    let s = c .before .before .before .before .before .before .before .before .before .before in
-    let tc = s .args .cells .now in
-    let tk = s .args .corners .now in
-    let v = s .args .clearance in
-    let f = c .before .before .before .before .before in
-    let d = f .before .before .before .shared-slice-known2 .given in
-    λ p w e. sought-hit tc tk v (s .pre .0) (s .args .lowest .now) (s .args .highest .now) (s .pre .1 .0) (s .pre .1 .1 .0) (s .args .axis)
-    (f .find .result) (s .args .level) (s .pre .1 .1 .1) (omega arith) p
-    (at-place tc tk v (s .pre .0) d (axisOf (s .args .axis)) p (s .args .level) (s .args .key) (f .find .result) e (f .find .ensures) w (omega arith))
-    (omega arith) (omega arith)
+    let f = c .before .before .before .before in
+    let s = start (f .before) in
+    λ p w e. sought-hit (s .args .cells .now) (s .args .corners .now) (s .args .clearance) (s .pre .0) (s .args .slots .now) (s .pre .1 .0) (s .args .axis)
+    (f .before .find .result) (s .args .level) (s .pre .1 .1) (inside f) p (place-is f p w e) (omega (arith, c .before .before .before .lowest .ensures))
+    (omega (arith, c .before .highest .ensures))
 
 pub edge-record-spec : {M : Type 1} → statement M
 edge-record-spec =
@@ -95,10 +88,10 @@ edge-record-spec =
     (tie.spec
     find-requires
     returns
-    mul-at
-    add-at
-    shared-slice-read-if2
+    mul-slot
+    add-slot
+    lowest-requires
     returns-2
-    shared-slice-read-if3
+    highest-requires
     returns-3
     returns-4)

@@ -1,34 +1,39 @@
--- `edges::enter` meets its contract: by cases on whether the slot is crossed.
-use mathlib.Core.Path.{refl}
+-- `edges::enter` meets its contract: true counts as 1.
+use Prim.Native.Nat.{_+_}
+use mathlib.Core.Path.{_≡_, refl, ap}
+use mathlib.Core.Bool.{Bool, true, false}
 use native.Mathlib.Omega.{arith}
+use mir.Val.{boolByte}
+use Rattle.base.specs.Lists.{bit}
+use Rattle.base.proofs.Tests.{bit-le}
 use borrow.Author.Needs.{needs}
 use Rattle.edges.proofs.enter.Statement.{statement}
 use Rattle.edges.proofs.enter.Tie as tie
 
-cast-slots : tie.Need-cast-slots
-cast-slots c = search needs
+byte-is : (b : Bool) → boolByte b ≡ bit b
+byte-is true = refl
+byte-is false = refl
 
-mul-slots : tie.Need-mul-slots
-mul-slots c = search needs
+cast-carriers : tie.Need-cast-carriers
+cast-carriers c = search needs
 
-slice-write-slots : tie.Need-slice-write-slots
-slice-write-slots c = search needs
+mul-carriers : tie.Need-mul-carriers
+mul-carriers c = search needs
+
+slice-write-carriers : tie.Need-slice-write-carriers
+slice-write-carriers c = search needs
+
+cast-result : tie.Need-cast-result
+cast-result c = search needs
 
 add-result : tie.Need-add-result
-add-result c = search needs
+add-result c = omega (arith, byte-is (c .args .crossed), bit-le (c .args .crossed) true (λ u. tt))
 
 same-length : tie.Need-same-length
 same-length c = search needs
 
 returns : tie.Need-returns
-returns c =
-    rw (c .if1 .taken) (omega arith, refl)
-
-returns-2 : tie.Need-returns-2
-returns-2 c =
-    rw (c .if1 .left) (omega arith, refl)
+returns c = (ap (λ m. c .args .n + m) (byte-is (c .args .crossed)), refl)
 
 pub enter-spec : {M : Type 1} → statement M
-enter-spec =
-    tie.close
-    (tie.spec cast-slots mul-slots slice-write-slots add-result same-length returns returns-2)
+enter-spec = tie.close (tie.spec cast-carriers mul-carriers slice-write-carriers cast-result add-result same-length returns)

@@ -1,75 +1,67 @@
--- `edges::slot_point` meets its contract: the edge of a crossed slot, as the tables have it.
-use Prim.Native.Nat.{_/_, _%_}
-use mathlib.Core.Path.{ap, _∙_}
+-- `edges::slot_point` meets its contract: the edge of a crossed slot, as the table has it.
+use Prim.Native.Nat.{ℕ, _/_, _%_}
+use mathlib.Core.Path.{sym, ap, _∙_, subst}
 use native.Mathlib.Omega.{arith}
-use lib.ListN.{getD}
 use Rattle.base.specs.Grid.{axisOf}
-use Rattle.rules.specs.Edges.{spotOn}
+use Rattle.rules.specs.Edges.{edge, spotOn}
 use Rattle.rules.specs.Survey.{cornersOf}
-use Rattle.edges.specs.Tables.{OddEdge, UpperEnd}
+use Rattle.records.specs.Keys.{placesOf}
+use Rattle.edges.specs.Tables.{placeAt, farAt, UpperEnd}
 use Rattle.edges.proofs.Places.{slot-edge-read}
-use Rattle.edges.proofs.TwinSlots.{slot-odd-edge, slot-far-end}
+use Rattle.edges.proofs.PointSlots.{slot-odd-edge, slot-far-end}
 use Rattle.edges.proofs.Readings.{corners, no-refusal}
 use Rattle.edges.proofs.Surveyed.{edge-shallow}
 use borrow.Author.Needs.{needs}
 use Rattle.edges.proofs.slot_point.Statement.{statement}
 use Rattle.edges.proofs.slot_point.Tie as tie
 
-module _ (s : tie.Start) where
-  odd-edge : OddEdge (s .args .cells .now) (s .args .corners .now) (s .args .clearance) (axisOf (s .args .slot / 4872)) (s .args .slot % 4872)
-      (getD (s .args .lowest .now) (s .args .slot) 0)
-  odd-edge =
-      slot-odd-edge (s .args .cells .now) (s .args .corners .now) (s .args .clearance) (s .pre .0) (s .args .lowest .now) (s .pre .1 .0) (s .args .slot)
-      (s .pre .1 .1 .1 .0) (s .pre .1 .1 .1 .1)
+far-requires : tie.Need-far-requires
+far-requires c κs = search needs
 
-  far-end : UpperEnd (s .args .corners .now) (axisOf (s .args .slot / 4872)) (s .args .slot % 4872) (getD (s .args .lowest .now) (s .args .slot) 0)
-      (getD (s .args .far .now) (s .args .slot) 0)
-  far-end =
-      slot-far-end (s .args .cells .now) (s .args .corners .now) (s .args .clearance) (s .pre .0) (s .args .lowest .now) (s .pre .1 .0) (s .args .slot)
-      (s .pre .1 .1 .1 .0) (s .pre .1 .1 .1 .1) (s .args .far .now) (s .pre .1 .1 .0)
+cast-end : tie.Need-cast-end
+cast-end c = search needs
+
+lowest-requires : tie.Need-lowest-requires
+lowest-requires c κs = search needs
 
 cast-edge-point : tie.Need-cast-edge-point
 cast-edge-point c = search needs
 
-mul-edge-point : tie.Need-mul-edge-point
-mul-edge-point c = search needs
-
-shared-slice-read-edge-point : tie.Need-shared-slice-read-edge-point
-shared-slice-read-edge-point c = search needs
-
-cast-edge-point-2 : tie.Need-cast-edge-point-2
-cast-edge-point-2 c =
-    let s = c .before .before .before .before .before in
-    omega (arith, far-end s .inside, corners (s .args .cells .now) (s .args .corners .now) (s .args .clearance) (s .pre .0) .few)
-
-shared-slice-read-edge-point-2 : tie.Need-shared-slice-read-edge-point-2
-shared-slice-read-edge-point-2 c = search needs
-
 edge-point-requires : tie.Need-edge-point-requires
 edge-point-requires c κs =
-    let s = c .before .before .before .before .before .before in
+    let s = c .before .before .before .before .before in
     let tc = s .args .cells .now in
     let tk = s .args .corners .now in
-    let o = odd-edge s in (
-      corners tc tk (s .args .clearance) (s .pre .0),
-      (o .inside, edge-shallow tc tk (no-refusal tc tk (s .args .clearance) (s .pre .0)) _ _ _ (o .is-edge), far-end s),
+    let x = s .args .clearance in
+    let i = s .args .slot in
+    let low = sym (c .lowest .ensures) in
+    let o = slot-odd-edge tc tk x (s .pre .0) (s .args .slots .now) (s .pre .1 .0) i (s .pre .1 .1 .0) (s .pre .1 .1 .1) in
+    let u = slot-far-end tc tk x (s .pre .0) (s .args .slots .now) (s .pre .1 .0) i (s .pre .1 .1 .0) (s .pre .1 .1 .1) in (
+      corners tc tk x (s .pre .0),
+      (
+        o .inside,
+        omega (arith, edge-shallow tc tk (no-refusal tc tk x (s .pre .0)) _ _ _ (o .is-edge), c .lowest .ensures),
+        subst (UpperEnd tk (axisOf (i / 4872)) (i % 4872) (c .lowest .result)) (sym (c .before .far .ensures))
+            (subst (λ (l : ℕ). UpperEnd tk (axisOf (i / 4872)) (i % 4872) l (farAt (s .args .slots .now) i)) low u),
+      ),
     )
 
 returns : tie.Need-returns
 returns c =
-    let s = c .before .before .before .before .before .before .before in
+    let s = c .before .before .before .before .before .before in
     let tk = s .args .corners .now in
-    c .edge-point .ensures ∙ ap (spotOn (cornersOf tk) (s .args .clearance)) (slot-edge-read (s .args .cells .now) tk (s .args .clearance) (s .pre .0)
-    (s .args .lowest .now) (s .pre .1 .0) (s .args .slot) (s .pre .1 .1 .1 .0) (s .pre .1 .1 .1 .1))
+    let i = s .args .slot in
+    c .edge-point .ensures ∙ ap (λ (l : ℕ). spotOn (cornersOf tk) (s .args .clearance) (edge (axisOf (i / 4872)) (placeAt (placesOf tk) (i % 4872)) l))
+    (c .before .lowest .ensures) ∙ ap (spotOn (cornersOf tk) (s .args .clearance)) (slot-edge-read (s .args .cells .now) tk (s .args .clearance) (s .pre .0)
+    (s .args .slots .now) (s .pre .1 .0) i (s .pre .1 .1 .0) (s .pre .1 .1 .1))
 
 pub slot-point-spec : {M : Type 1} → statement M
 slot-point-spec =
     tie.close
     (tie.spec
+    far-requires
+    cast-end
+    lowest-requires
     cast-edge-point
-    mul-edge-point
-    shared-slice-read-edge-point
-    cast-edge-point-2
-    shared-slice-read-edge-point-2
     edge-point-requires
     returns)

@@ -1,95 +1,96 @@
--- `loops::draw_loops` meets its contract. The loop's invariant: the blocks before the one at hand are passed. The measure is how many are to
--- come. Assumes nothing.
-use Prim.Native.Nat.{ℕ, _+_, _-_, _≤_, _<_}
-use mathlib.Core.Path.{_≡_, refl, sym, _∙_, subst}
-use mathlib.Core.Logic.{⊎-elim}
+-- `loops::draw_loops` meets its contract. The loop's invariant: the points below the one at hand are passed, and it is the lowest with a mark. The
+-- measure is how far it is below 65,535. Assumes nothing.
+use Prim.Native.Nat.{ℕ, _+_, _-_, _≤_}
+use mathlib.Core.Path.{refl, sym, _∙_}
 use native.Mathlib.Omega.{arith}
+use lib.ListN.{length-set}
 use denote.Ref.{now}
-use borrow.Author.Needs.{needs}
-use Rattle.trace.specs.Trace.{Trace, trace}
-use Rattle.loops.specs.Sweep.{Progress, progress, Swept}
-use Rattle.loops.proofs.Blocks.{swept-long, reach, Sweeping, sweeps-none, sweeps-on, sweeps-past, same-progress, sweeps-ready, sweeps-all}
+use Rattle.trace.specs.Trace.{Traced, metCount}
+use Rattle.loops.specs.Loops.{Leaf}
+use Rattle.loops.specs.Sweep.{Lowest, Progress, progress, Swept}
+use Rattle.loops.proofs.Sweep.{swept-none, swept-long, begins, drawn}
+use Rattle.loops.proofs.Lowest.{scans, beyond, reaches, ready, passes-on}
 use Rattle.loops.proofs.draw_loops.Statement.{statement}
 use Rattle.loops.proofs.draw_loops.Tie as tie
 
 abbrev Inv-loop : tie.InvT-loop
-Inv-loop nexts₀ marks₀ blocks₀ twins points out₀ end count₀ block₀ nexts marks blocks out count block =
-    (block ≤ end) × Sweeping twins (trace nexts₀ marks₀ blocks₀) out₀ block blocks (progress nexts marks out count)
+Inv-loop trace₀ twins out₀ count₀ v₀ trace out count v =
+    Lowest trace (metCount trace) v
+    × ((l : Leaf twins) (limit : ℕ) → Traced limit (l .steps) trace₀ → Swept l limit 0 v (progress trace₀ out₀ 0) (progress trace out count))
 
 abbrev μ-loop : tie.MeasureT-loop
-μ-loop nexts₀ marks₀ blocks₀ twins points out₀ end count₀ block₀ nexts marks blocks out count block = end - block
+μ-loop trace₀ twins out₀ count₀ v₀ trace out count v = 65535 - v
 
 abbrev start : tie.At-loop Inv-loop μ-loop → tie.Start Inv-loop μ-loop
-start c = c .before .before .before .before .before .before .before
+start c = c .before .before .before .before .before .before
 
-abbrev entry : tie.At-loop Inv-loop μ-loop → Trace
-entry c = trace (now (start c .args .nexts)) (now (start c .args .marks)) (now (start c .args .blocks))
+abbrev entry : tie.At-loop Inv-loop μ-loop → Progress
+entry c = progress (now (start c .args .trace)) (now (start c .args .out)) 0
 
 abbrev here : tie.At-loop Inv-loop μ-loop → Progress
-here c = progress (c .loop .nexts) (c .loop .marks) (c .loop .out) (c .loop .count)
+here c = progress (c .loop .trace) (c .loop .out) (c .loop .count)
 
--- the leaf at entry is swept up to the block at hand
-swept : (c : tie.At-loop Inv-loop μ-loop)
-    → Swept (start c .pre .1 .1 .leaf) 0 (reach (c .loop .block)) (progress (entry c .nexts) (entry c .marks) (now (start c .args .out)) 0) (here c)
-swept c = c .loop .inv .1 .swept (start c .pre .1 .1 .leaf) (start c .pre .1 .1 .traced)
+-- the leaf at entry is swept up to the point at hand
+swept : (c : tie.At-loop Inv-loop μ-loop) → Swept (start c .pre .leaf) (start c .pre .limit) 0 (c .loop .v) (entry c) (here c)
+swept c = c .loop .inv .1 (start c .pre .leaf) (start c .pre .limit) (start c .pre .traced)
 
-blocks-of-requires : tie.Need-blocks-of-requires Inv-loop μ-loop
-blocks-of-requires c κs = search needs
+abbrev at-test : tie.After-draw-loop Inv-loop μ-loop → tie.In-loop Inv-loop μ-loop
+at-test c = c .before .before .before
+
+-- and, when its loop is drawn, so is any leaf at entry up to the point after it
+passed : (c : tie.After-draw-loop Inv-loop μ-loop) (l : Leaf (now (start (at-test c .before) .args .twins))) (limit : ℕ)
+    → Traced limit (l .steps) (now (start (at-test c .before) .args .trace))
+    → (at-test c .before .loop .v + 1 ≤ 65535) × Swept l limit 0 (at-test c .before .loop .v + 1) (entry (at-test c .before))
+    (progress (c .draw-loop .last .0) (c .draw-loop .last .1 .1 .1 .0) (c .draw-loop .result))
+passed c l limit h =
+    let at = at-test c .before in
+    passes-on l limit _ (entry at) (here at) (at .loop .inv .1 l limit h) refl (at .loop .inv .0) (at-test c .loop-test .taken) _ (c .draw-loop .ensures)
+
+lowest-met-requires : tie.Need-lowest-met-requires Inv-loop μ-loop
+lowest-met-requires c κs =
+    let at = c .before .before .before .before in
+    scans _ _ _ _ (begins (at .pre .leaf) (at .pre .limit) _ (now (at .args .out)) 0 (at .pre .traced) .held)
 
 loop-holds : tie.Need-loop-holds Inv-loop μ-loop
 loop-holds c =
-    let at = c .before .before .before .before .before .before in
-    (omega arith, sweeps-none _ (trace _ _ _) _ (at .pre .1 .1 .traced .sized .groups))
+    let found = c .lowest-met .ensures in
+    (found, λ l limit h. reaches l limit 0 _ _ _ (omega arith, swept-none l limit 0 _ (begins l limit _ _ 0 h)) found)
 
-take-flag-requires : tie.Need-take-flag-requires Inv-loop μ-loop
-take-flag-requires c κs = omega (arith, c .before .before .loop .inv .1 .groups)
+draw-loop-requires : tie.Need-draw-loop-requires Inv-loop μ-loop
+draw-loop-requires c κs =
+    let test = c .before .before in
+    let at = test .before in
+    ready _ _ _ (entry at) (here at) (swept at) refl (at .loop .inv .0) (test .loop-test .taken)
 
-draw-block-requires : tie.Need-draw-block-requires Inv-loop μ-loop
-draw-block-requires c κs =
-    let at = c .before .before .before .before .before .before .before .before .before in
-    let i : at .loop .block < 115 = omega (arith, at .before .blocks-of .ensures) in
-    (sweeps-ready _ (entry at) _ _ _ (here at) i (at .loop .inv .1) (start at .pre .0) (start at .pre .1 .1), i)
-
-add-block : tie.Need-add-block Inv-loop μ-loop
-add-block c = search needs
+lowest-met-requires-2 : tie.Need-lowest-met-requires-2 Inv-loop μ-loop
+lowest-met-requires-2 c κs =
+    let called = c .before .before .before .before .before in
+    let pre = start (at-test called .before) .pre in
+    scans _ _ _ _ (passed called (pre .leaf) (pre .limit) (pre .traced) .1 .left .held)
 
 loop-less : tie.Need-loop-less Inv-loop μ-loop
-loop-less c = search needs
+loop-less c =
+    let called = c .before .before .before .before .before .before in
+    let pre = start (at-test called .before) .pre in
+    let on = passed called (pre .leaf) (pre .limit) (pre .traced) in
+    omega (arith, on .0, beyond _ _ _ _ _ _ on (c .lowest-met2 .ensures))
 
 loop-again : tie.Need-loop-again Inv-loop μ-loop
 loop-again c =
-    let taken = c .before .before .before in
-    let at = taken .before .before .before in
-    let i : at .loop .block < 115 = omega (arith, at .before .blocks-of .ensures) in
-    let Next : Progress → Type 0 =
-    Sweeping (now (start at .args .twins)) (entry at) (now (start at .args .out)) (at .loop .block + 1) (taken .take-flag .last .0) in
-    let flag = taken .take-flag .ensures in (
-      omega arith,
-      ⊎-elim
-          (λ w. same-progress Next (w .11) (w .12) (w .13) (w .14) (sweeps-on _ (entry at) _ _ _ (here at) i (at .loop .inv .1) _ _ (flag .1) (w .4 .ensures)))
-          (λ w.
-          same-progress Next (w .1) (w .2) (w .3) (w .4)
-          (sweeps-past _ (entry at) _ _ _ (here at) i (at .loop .inv .1) _ (flag .1) (sym (flag .0) ∙ w .0 .left)))
-          (c .if1 .came),
-    )
+    let called = c .before .before .before .before .before .before in
+    (c .lowest-met2 .ensures, λ l limit h. reaches l limit _ _ _ _ (passed called l limit h) (c .lowest-met2 .ensures))
+
+slice-write-trace : tie.Need-slice-write-trace Inv-loop μ-loop
+slice-write-trace c = omega (arith, swept (c .before) .left .held .room)
 
 same-length : tie.Need-same-length Inv-loop μ-loop
-same-length c = swept (c .before) .left .held .nextsLong ∙ sym (start (c .before) .pre .1 .1 .traced .sized .points)
+same-length c = rw length-set (swept (c .before) .left .held .room ∙ sym (start (c .before) .pre .traced .room))
 
 same-length-2 : tie.Need-same-length-2 Inv-loop μ-loop
-same-length-2 c = swept (c .before) .left .held .marksLong ∙ sym (start (c .before) .pre .1 .1 .traced .sized .same)
-
-same-length-3 : tie.Need-same-length-3 Inv-loop μ-loop
-same-length-3 c = c .before .loop .inv .1 .groups ∙ sym (start (c .before) .pre .1 .1 .traced .sized .groups)
-
-same-length-4 : tie.Need-same-length-4 Inv-loop μ-loop
-same-length-4 c = swept-long _ _ _ _ _ (swept (c .before))
+same-length-2 c = swept-long _ _ _ _ _ _ (swept (c .before))
 
 returns : tie.Need-returns Inv-loop μ-loop
-returns c =
-    let at = c .before in
-    let ends = at .before .blocks-of .ensures in
-    sweeps-all _ (entry at) _ _ _ (here at) (λ v h b. start at .pre .1 .0 .1 v (omega arith) b) (at .loop .inv .1)
+returns c limit l h = let at = c .before in drawn l limit _ (entry at) (here at) (c .loop-test .left) refl (at .loop .inv .1 l limit h)
 
 pub draw-loops-spec : {M : Type 1} → statement M
 draw-loops-spec =
@@ -97,15 +98,13 @@ draw-loops-spec =
     (tie.spec
     Inv-loop
     μ-loop
-    blocks-of-requires
+    lowest-met-requires
     loop-holds
-    take-flag-requires
-    draw-block-requires
-    add-block
+    draw-loop-requires
+    lowest-met-requires-2
     loop-less
     loop-again
+    slice-write-trace
     same-length
     same-length-2
-    same-length-3
-    same-length-4
     returns)

@@ -1,6 +1,6 @@
 -- `octants::fill_cell` meets its contract: before each turn the first i corners are written, and all else is as it was.
-use Prim.Native.Nat.{ℕ, _+_, _-_, _*_, _^_, _≤_}
-use mathlib.Core.Path.{_≡_, refl, ap, _∙_}
+use Prim.Native.Nat.{ℕ, _+_, _-_, _*_, _≤_}
+use mathlib.Core.Path.{_≡_, ap, _∙_}
 use native.Mathlib.Omega.{arith}
 use lib.ListN.{length, length-set}
 use Rattle.records.specs.Keys.{recordAt}
@@ -13,11 +13,11 @@ use Rattle.octants.proofs.fill_cell.Statement.{statement}
 use Rattle.octants.proofs.fill_cell.Tie as tie
 
 abbrev Inv-loop : tie.InvT-loop
-Inv-loop corners n key level octants₀ size i₀ octants i =
+Inv-loop corners hints n key level octants₀ size i₀ octants i =
     (i ≤ 8) × (length octants ≡ 16392) × (octants ≡ writtenAt (λ j. recordAt corners (key + octantKey j size)) (8 * n) i octants₀)
 
 abbrev μ-loop : tie.MeasureT-loop
-μ-loop corners n key level octants₀ size i₀ octants i = 8 - i
+μ-loop corners hints n key level octants₀ size i₀ octants i = 8 - i
 
 size-of-requires : tie.Need-size-of-requires Inv-loop μ-loop
 size-of-requires c κs = search needs

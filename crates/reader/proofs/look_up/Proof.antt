@@ -1,5 +1,5 @@
--- `reader::look_up` meets its contract: a walk of its MIR, by hand. The reader is taken apart, and `find` is called on the slice and the key. All that the
--- proof knows of `find` is that it meets its contract.
+-- `reader::look_up` meets its contract: a walk of its MIR, by hand. The reader is taken apart, and `find_in` is called on the slice, the key and the guess.
+-- All that the proof knows of `find_in` is that it meets its contract.
 -- The struct is Copy: what it owns is had twice, one copy is kept whole for the exit, and of the other what bytes owns goes to the callee, beside the
 -- lifetime's token, which comes back.
 -- Assumes nothing.
@@ -112,7 +112,7 @@ abbrev B : Lfts 1 → RattleType
 B κs = T.the-row (namedLft 1 0 tt κs)
 
 abbrev stayed : Stays (next.ended .signature .params) (next.ended .kept)
-stayed = (stay-none B yes, (stay-none (λ _. u64) yes, tt))
+stayed = (stay-none B yes, (stay-none (λ _. u64) yes, (stay-none (λ _. usize) yes, tt)))
 
 module _ {M : Type 1} (𝓤 : URA M) (H : Heap 𝓤) (A : Atoms 𝓤) (mem : Memory → SProp 𝓤) (run : Routine → Fun 𝓤) where
   -- the contract that the proof cites
@@ -120,11 +120,11 @@ module _ {M : Type 1} (𝓤 : URA M) (H : Heap 𝓤) (A : Atoms 𝓤) (mem : Mem
   StepAt = tripleOf 𝓤 H A step.signature (step.spec 𝓤 H A mem run)
 
 module _ {M : Type 1} (𝓤 : URA M) (H : Heap 𝓤) (A : Atoms 𝓤) (W : Given 𝓤 H A) (mem : Memory → SProp 𝓤) (run : Routine
-    → Fun 𝓤) (κ : Lft) (q : Share) (d : Reader) (key : ℕ) where
+    → Fun 𝓤) (κ : Lft) (q : Share) (d : Reader) (key guess : ℕ) where
   abbrev mach : Val
   mach = T′.lowered d
 
-  -- the machine value of src
+  -- the machine value of bytes
   abbrev v : Val
   v = sliceVal (d .bytes .ptr) (length (d .bytes .now))
 
@@ -132,10 +132,10 @@ module _ {M : Type 1} (𝓤 : URA M) (H : Heap 𝓤) (A : Atoms 𝓤) (W : Given
   found = recordAt (now (d .bytes)) key
 
   abbrev at : Vals next.signature (κ, tt)
-  at = (mach ∷ [], (vint w64 key ∷ [], tt))
+  at = (mach ∷ [], (vint w64 key ∷ [], (vint w64 guess ∷ [], tt)))
 
   abbrev Post : Val → SProp 𝓤
-  Post = walkOf 𝓤 H A next.ended stayed (next.clauses 𝓤 H A mem run) .post (((κ, tt), (q, tt), tt, (d, (key, tt)), at), tt)
+  Post = walkOf 𝓤 H A next.ended stayed (next.clauses 𝓤 H A mem run) .post (((κ, tt), (q, tt), tt, (d, (key, (guess, tt))), at), tt)
 
   abbrev Own : Fml
   Own = B (κ, tt) .own d (mach ∷ [])
@@ -152,67 +152,76 @@ module _ {M : Type 1} (𝓤 : URA M) (H : Heap 𝓤) (A : Atoms 𝓤) (W : Given
 
   -- what the callee is passed
   abbrev passed : Vals step.signature (κ, tt)
-  passed = (v ∷ [], (vint w64 (d .count) ∷ [], (vint w64 key ∷ [], tt)))
+  passed = (v ∷ [], (vint w64 (d .count) ∷ [], (vint w64 key ∷ [], (vint w64 guess ∷ [], tt))))
 
   abbrev to : StepAt 𝓤 H A mem run .Ghost
-  to = (((κ, tt), (q, tt), tt, (d .bytes, (d .count, (key, tt))), passed), tt)
+  to = (((κ, tt), (q, tt), tt, (d .bytes, (d .count, (key, (guess, tt)))), passed), tt)
 
-  asked : Ordered (now (d .bytes)) (d .count) → ent 𝓤 (onEntry 𝓤 H A step.signature (κ, tt) (q, tt) (d .bytes, (d .count, (key, tt))) passed) (StepAt 𝓤 H
+  asked : Ordered (now (d .bytes)) (d .count)
+      → ent 𝓤 (onEntry 𝓤 H A step.signature (κ, tt) (q, tt) (d .bytes, (d .count, (key, (guess, tt)))) passed) (StepAt 𝓤 H
       A mem run .pre to)
-  asked up = qed W ((‵ (flft κ q) ⊛ ‵ ftrue) ∷ ‵ (owns (ShrSlice (named 0) κ u8 ∷ usize ∷ u64 ∷ []) (d .bytes, (d .count, (key, tt))) passed) ∷ []) ∵
+  asked up = qed W ((‵ (flft κ q) ⊛ ‵ ftrue) ∷ ‵ (owns (ShrSlice (named 0) κ u8 ∷ usize ∷ u64 ∷ usize ∷ []) (d .bytes, (d .count, (key, (guess, tt)))) passed)
+      ∷ []) ∵
       says ! up $ frame ! $ done !
 
   -- what the struct owns gives what the callee asks, and is kept
-  apart : Ordered (now (d .bytes)) (d .count) → d .count < 2 ^ 64 → key < 2 ^ 64 → ent 𝓤 (onEntry 𝓤 H A next.signature (κ, tt) (q, tt) (d, (key, tt)) at)
+  apart : Ordered (now (d .bytes)) (d .count) → d .count < 2 ^ 64 → key < 2 ^ 64 → guess < 2 ^ 64
+      → ent 𝓤 (onEntry 𝓤 H A next.signature (κ, tt) (q, tt) (d, (key, (guess, tt))) at)
       (sep 𝓤 (StepAt 𝓤 H A mem run .pre to) (sem 𝓤 H A Own))
-  apart up counted fits =
-      qed W ((‵ (flft κ q) ⊛ ‵ ftrue) ∷ ‵ (owns (B (κ, tt) ∷ u64 ∷ []) (d, (key, tt)) at) ∷ []) ∵
+  apart up counted fits held =
+      qed W ((‵ (flft κ q) ⊛ ‵ ftrue) ∷ ‵ (owns (B (κ, tt) ∷ u64 ∷ usize ∷ []) (d, (key, (guess, tt))) at) ∷ []) ∵
       move ! (1 ∷ []) $ fsplit ! $ move ! (1 ∷ []) $ drop ! $ use1 W (‵ Own ⊛ ‵ Own) (LL.copy D (T′.the-copy (namedLft 1 0 tt (κ, tt))) 𝓤 H A W .twice d
       (mach ∷ [])) $ split ! $
       use1 W (given (mach ∷ [] ≡ mach ∷ []) (‵ (all-own (D .parts) L vd))) (own-open 𝓤 H A W D L vd mach) $
       learn ! (λ _. use1 W (‵ (ownAt (D .parts) L 0 (d .bytes)) ⊛ ‵ (rest (D .parts) L 0 vd)) (own-out 𝓤 H A W (D .parts) L 0 vd) $ split ! $
-      -- [what src owns; what at owns; what the struct owns; the token]
-      move ! (1 ∷ []) $ drop ! $ nothing ! $ owned ! u64 (Is u64) (uint-makes 𝓤 H A W w64) key _ (refl, fits) $ fjoin ! $
+      -- [what bytes owns; what count owns; what the struct owns; the token]
+      move ! (1 ∷ []) $ drop ! $ nothing ! $ owned ! usize (Is usize) (uint-makes 𝓤 H A W w64) guess _ (refl, held) $ fjoin ! $
+      owned ! u64 (Is u64) (uint-makes 𝓤 H A W w64) key _ (refl, fits) $ fjoin ! $
       owned ! usize (Is usize) (uint-makes 𝓤 H A W w64) (d .count) _ (refl, counted) $ fjoin ! $ move ! (1 ∷ 0 ∷ []) $ fjoin ! $
       move ! (2 ∷ 0 ∷ []) $ use2 W (raw (StepAt 𝓤 H A mem run .pre to)) (asked up) $ frame ! $ done !)
 
   -- of the callee's `ensured`, the clause alone: it has no `&mut`, so what is said of last values is dropped
-  said : (r : ℕ) → ent 𝓤 (ensured 𝓤 H A step.ended (step.clauses 𝓤 H A mem run) (κ, tt) (d .bytes, (d .count, (key, tt))) tt r) (fact 𝓤 (r ≡ found))
-  said r = exE 𝓤 _ (λ ws. snd∗ 𝓤 (sem 𝓤 H A (lasts step.ended (κ, tt) (d .bytes, (d .count, (key, tt))) ws)) (fact 𝓤 (r ≡ found)))
+  said : (r : ℕ) → ent 𝓤 (ensured 𝓤 H A step.ended (step.clauses 𝓤 H A mem run) (κ, tt) (d .bytes, (d .count, (key, (guess, tt)))) tt r) (fact 𝓤 (r ≡ found))
+  said r = exE 𝓤 _ (λ ws. snd∗ 𝓤 (sem 𝓤 H A (lasts step.ended (κ, tt) (d .bytes, (d .count, (key, (guess, tt)))) ws)) (fact 𝓤 (r ≡ found)))
 
-  exits : key < 2 ^ 64 → (r : ℕ) (u : Val) → r ≡ found → ent 𝓤 (⋆ 𝓤 H A (‵ (usize .own r (u ∷ [])) ∷ (‵ (flft κ q) ⊛ ‵ ftrue) ∷ ‵ Own ∷ [])) (Post u)
-  exits fits r u e =
+  exits : key < 2 ^ 64 → guess < 2 ^ 64 → (r : ℕ) (u : Val) → r ≡ found
+      → ent 𝓤 (⋆ 𝓤 H A (‵ (usize .own r (u ∷ [])) ∷ (‵ (flft κ q) ⊛ ‵ ftrue) ∷ ‵ Own ∷ [])) (Post u)
+  exits fits held r u e =
       qed W (‵ (usize .own r (u ∷ [])) ∷ (‵ (flft κ q) ⊛ ‵ ftrue) ∷ ‵ Own ∷ []) ∵
-      suffices ! _ (ends-at 𝓤 H A next.ended stayed (next.clauses 𝓤 H A mem run) W (((κ, tt), (q, tt), tt, (d, (key, tt)), at), tt) u r (tt, (tt, tt))
-      (tt, (tt, tt))) $ says ! e $
-      move ! (1 ∷ []) $ frame ! $ nothing ! $ owned ! u64 (Is u64) (uint-makes 𝓤 H A W w64) key _ (refl, fits) $ fjoin ! $ move ! (2 ∷ 0 ∷ []) $
+      suffices ! _ (ends-at 𝓤 H A next.ended stayed (next.clauses 𝓤 H A mem run) W (((κ, tt), (q, tt), tt, (d, (key, (guess, tt))), at), tt)
+      u r (tt, (tt, (tt, tt))) (tt, (tt, (tt, tt)))) $ says ! e $
+      move ! (1 ∷ []) $ frame ! $ nothing ! $ owned ! usize (Is usize) (uint-makes 𝓤 H A W w64) guess _ (refl, held) $ fjoin ! $
+      owned ! u64 (Is u64) (uint-makes 𝓤 H A W w64) key _ (refl, fits) $ fjoin ! $ move ! (2 ∷ 0 ∷ []) $
       fjoin ! $ frame ! $ done !
 
   module _ (C : Calls 𝓤 H) (Λ : Loops 𝓤 H) (fm : FmC 𝓤 H (W .laws) C) (known : Triple 𝓤 (C #reader·find-in) (StepAt 𝓤 H A mem run)) where
-    walk : Holds (hasTy (T′.mir (named 0)) mach) × WT mach → key < 2 ^ 64 → Ordered (now (d .bytes)) (d .count)
-        → ent 𝓤 (onEntry 𝓤 H A next.signature (κ, tt) (q, tt) (d, (key, tt)) at) (WpFn 𝓤 H C Λ code.function (mach ∷ vint w64 key ∷ []) Post)
-    walk wt fits up =
-        qed W (raw (onEntry 𝓤 H A next.signature (κ, tt) (q, tt) (d, (key, tt)) at) ∷ []) ∵ enter ! C Λ code.function (mach ∷ vint w64 key ∷ []) _ $
-        alloc1 ! (λ l₀. alloc1 ! (λ l₁. alloc1 ! (λ l₂. alloc1 ! (λ l₃. alloc1 ! (λ l₄. alloc0 ! $ params1 ! $ pass1 ! (init ! 6 refl wt) $
-        pass1 ! (init ! 4 refl (tt, record { fits = fits })) $ pass0 ! $
-        assigns ! (of-opd ! (load ! (from ! (fld ! refl (stop !))) (look-in ! 6 (sub ! 0 refl (whole !))))) (from ! (stop !)) (init ! 2 refl (tt, wt .1 .0)) $
-        assigns ! (of-opd ! (load ! (from ! (fld ! refl (stop !))) (look-in ! 6 (sub ! 1 refl (whole !))))) (from ! (stop !)) (init ! 0 refl (
+    walk : Holds (hasTy (T′.mir (named 0)) mach) × WT mach → key < 2 ^ 64 → guess < 2 ^ 64 → Ordered (now (d .bytes)) (d .count)
+        → ent 𝓤 (onEntry 𝓤 H A next.signature (κ, tt) (q, tt) (d, (key, (guess, tt))) at)
+        (WpFn 𝓤 H C Λ code.function (mach ∷ vint w64 key ∷ vint w64 guess ∷ []) Post)
+    walk wt fits held up =
+        qed W (raw (onEntry 𝓤 H A next.signature (κ, tt) (q, tt) (d, (key, (guess, tt))) at) ∷ []) ∵
+        enter ! C Λ code.function (mach ∷ vint w64 key ∷ vint w64 guess ∷ []) _ $
+        alloc1 ! (λ l₀. alloc1 ! (λ l₁. alloc1 ! (λ l₂. alloc1 ! (λ l₃. alloc1 ! (λ l₄. alloc1 ! (λ l₅. alloc0 ! $ params1 ! $ pass1 ! (init ! 8 refl wt) $
+        pass1 ! (init ! 6 refl (tt, record { fits = fits })) $ pass1 ! (init ! 4 refl (tt, record { fits = held })) $ pass0 ! $
+        assigns ! (of-opd ! (load ! (from ! (fld ! refl (stop !))) (look-in ! 8 (sub ! 0 refl (whole !))))) (from ! (stop !)) (init ! 2 refl (tt, wt .1 .0)) $
+        assigns ! (of-opd ! (load ! (from ! (fld ! refl (stop !))) (look-in ! 8 (sub ! 1 refl (whole !))))) (from ! (stop !)) (init ! 0 refl (
           tt,
           wt .1
               .1 .0,
         )) $
-        move ! (10 ∷ []) $ use1 W (raw (StepAt 𝓤 H A mem run .pre to) ⊛ ‵ Own) (apart up (wt .1 .1 .0 .fits) fits) $ split ! $
+        move ! (12 ∷ []) $ use1 W (raw (StepAt 𝓤 H A mem run .pre to) ⊛ ‵ Own) (apart up (wt .1 .1 .0 .fits) fits held) $ split ! $
         calls-at ! fm (StepAt 𝓤 H A mem run) known to (and-then ! (load ! (from ! (stop !)) (look ! 4 refl)) (and-then ! (load ! (from ! (stop !)) (look
-        ! 2 refl)) (and-then ! (load ! (from ! (stop !)) (look ! 6 refl)) (no-more !)))) (λ u.
+        ! 2 refl)) (and-then ! (load ! (from ! (stop !)) (look ! 8 refl)) (and-then ! (load ! (from ! (stop !)) (look ! 6 refl)) (no-more !))))) (λ u.
         use1 W (later (some (λ (r : ℕ). ((‵ (flft κ q) ⊛ ‵ ftrue) ⊛ ‵ (usize .own r (u ∷ []))) ⊛ raw (ensured 𝓤 H A step.ended (step.clauses 𝓤 H A mem
-        run) (κ, tt) (d .bytes, (d .count, (key, tt))) tt r)))) (id⊢ 𝓤 _) $ await ! tt $ pick ! (λ r.
+        run) (κ, tt) (d .bytes, (d .count, (key, (guess, tt)))) tt r)))) (id⊢ 𝓤 _) $ await ! tt $ pick ! (λ r.
         split ! $ move ! (1 ∷ []) $ use1 W (raw (fact 𝓤 (r ≡ found))) (said r) $ heard ! (r ≡ found) (λ e. split ! $ move ! (1 ∷ []) $
-        -- [the result; the token; what the struct owns; _3; …; _2; …; _1; …; room for _0; …]
+        -- [the result; the token; what the struct owns; _5; …; _4; …; _3; …; _2; …; _1; …; room for _0; …]
         peeks ! usize (Is usize) (shows 𝓤 H A usize) r (u ∷ []) (λ is.
-        land ! (from ! (stop !)) (init ! 11 refl (uint-lawful 𝓤 H A W w64 .typed r _ is .0)) $
-        returns ! (look ! 11 refl) $ forget ! 3 refl $ forget ! 5 refl $ forget ! 7 refl $ forget ! 9 refl $ forget ! 11 refl $
-        move ! (11 ∷ 12 ∷ []) $ free1 ! $ move ! (9 ∷ 10 ∷ []) $ free1 ! $ move ! (7 ∷ 8 ∷ []) $ free1 ! $ move ! (5 ∷ 6 ∷ []) $ free1 ! $
-        move ! (3 ∷ 4 ∷ []) $ free1 ! $ free0 ! $ by ! (exits fits r u e))))))))))
+        land ! (from ! (stop !)) (init ! 13 refl (uint-lawful 𝓤 H A W w64 .typed r _ is .0)) $
+        returns ! (look ! 13 refl) $ forget ! 3 refl $ forget ! 5 refl $ forget ! 7 refl $ forget ! 9 refl $ forget ! 11 refl $ forget ! 13 refl $
+        move ! (13 ∷ 14 ∷ []) $ free1 ! $ move ! (11 ∷ 12 ∷ []) $ free1 ! $ move ! (9 ∷ 10 ∷ []) $ free1 ! $ move ! (7 ∷ 8 ∷ []) $ free1 ! $
+        move ! (5 ∷ 6 ∷ []) $ free1 ! $
+        move ! (3 ∷ 4 ∷ []) $ free1 ! $ free0 ! $ by ! (exits fits held r u e)))))))))))
 
 module _ {M : Type 1} (𝓤 : URA M) (H : Heap 𝓤) (A : Atoms 𝓤) (W : Given 𝓤 H A) (mem : Memory → SProp 𝓤) (run : Routine → Fun 𝓤) where
   next-walks : (C : Calls 𝓤 H) (Λ : Loops 𝓤 H) → FmC 𝓤 H (W .laws) C → Triple 𝓤 (C #reader·find-in) (StepAt 𝓤 H A mem run)
@@ -220,14 +229,14 @@ module _ {M : Type 1} (𝓤 : URA M) (H : Heap 𝓤) (A : Atoms 𝓤) (W : Given
   next-walks C Λ fm known = walked 𝓤 H A next.ended stayed (next.clauses 𝓤 H A mem run) (WpFn 𝓤 H C Λ code.function) (λ κs. (
     LL.vals (T.the-type
         (namedLft 1 0 tt κs)) (T′.the-laws (namedLft 1 0 tt κs)),
-    (uint-vals w64, tt),
+    (uint-vals w64, (uint-vals w64, tt)),
   )) (λ κs. (
     LL.tells (T.the-type (namedLft 1 0 tt κs)) (T′.the-laws
         (namedLft 1 0 tt κs)),
-    (uint-tells w64, tt),
+    (uint-tells w64, (uint-tells w64, tt)),
   ))
-      (λ κs qs bounds a g are. needs 𝓤 _ _ (walk 𝓤 H A W mem run (κs .0) (qs .0) (a .0) (a .1 .0) C Λ fm known (LL.lawful (T.the-type (namedLft 1 0 tt
-      κs)) (T′.the-laws (namedLft 1 0 tt κs)) 𝓤 H A W .typed (a .0) _ (are .0) .0) (are .1 .0 .1)))
+      (λ κs qs bounds a g are. needs 𝓤 _ _ (walk 𝓤 H A W mem run (κs .0) (qs .0) (a .0) (a .1 .0) (a .1 .1 .0) C Λ fm known (LL.lawful (T.the-type
+      (namedLft 1 0 tt κs)) (T′.the-laws (namedLft 1 0 tt κs)) 𝓤 H A W .typed (a .0) _ (are .0) .0) (are .1 .0 .1) (are .1 .1 .0 .1)))
 
 next-meets : {M : Type 1} (𝓤 : URA M) (H : Heap 𝓤) (A : Atoms 𝓤) (W : Given 𝓤 H A) (mem : Memory → SProp 𝓤) (run : Routine → Fun 𝓤) (𝓣 : Tables 𝓤 H)
     → Triple 𝓤 (𝓣 .C #reader·find-in) (StepAt 𝓤 H A mem run)
@@ -237,7 +246,7 @@ next-meets 𝓤 H A W mem run 𝓣 known-step = walk-meets 𝓤 H A next.ended s
   (
     goes-none 𝓤 H A W 1 (λ _.
         u64) yes (λ κs x f. refl),
-    tt,
+    (goes-none 𝓤 H A W 1 (λ _. usize) yes (λ κs x f. refl), tt),
   ),
 ) (next.clauses 𝓤 H A mem run) (WpFn 𝓤 H (𝓣 .C) (𝓣 .Λ) code.function) (WpFn-mono 𝓤 H (W .laws) 𝓣 code.function)
     (next-walks 𝓤 H A W mem run (𝓣 .C) (𝓣 .Λ) (fmOf 𝓤 H (W .laws) 𝓣) known-step)

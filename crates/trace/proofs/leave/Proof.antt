@@ -1,6 +1,6 @@
 -- `trace::leave` meets its contract: by the test on what stands there.
-use borrow.Author.Tests.{eq-eqb, ne-eqb}
 use mathlib.Core.Path.{sym}
+use borrow.Author.Tests.{eq-eqb, ne-eqb}
 use borrow.Author.Needs.{needs}
 use Rattle.trace.proofs.leave.Statement.{statement}
 use Rattle.trace.proofs.leave.Tie as tie
@@ -8,17 +8,23 @@ use Rattle.trace.proofs.leave.Tie as tie
 wide-requires : tie.Need-wide-requires
 wide-requires c κs = search needs
 
+mul-at : tie.Need-mul-at
+mul-at c = search needs
+
+add-at : tie.Need-add-at
+add-at c = search needs
+
 mul-if1 : tie.Need-mul-if1
 mul-if1 c = search needs
 
 slice-read-if1 : tie.Need-slice-read-if1
 slice-read-if1 c = search needs
 
-mul-nexts : tie.Need-mul-nexts
-mul-nexts c = search needs
+mul-trace : tie.Need-mul-trace
+mul-trace c = search needs
 
-slice-write-nexts : tie.Need-slice-write-nexts
-slice-write-nexts c = search needs
+slice-write-trace : tie.Need-slice-write-trace
+slice-write-trace c = search needs
 
 same-length : tie.Need-same-length
 same-length c = search needs
@@ -34,10 +40,12 @@ leave-spec =
     tie.close
     (tie.spec
     wide-requires
+    mul-at
+    add-at
     mul-if1
     slice-read-if1
-    mul-nexts
-    slice-write-nexts
+    mul-trace
+    slice-write-trace
     same-length
     returns
     returns-2)

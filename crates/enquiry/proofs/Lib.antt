@@ -1,0 +1,2 @@
+pub mod Enquiring
+pub mod Staying

@@ -1,0 +1,3 @@
+pub mod Slices
+pub mod Leaves
+pub mod Records
