@@ -2,8 +2,8 @@
  * Clearance surfaces over a lock survey: the proved library for C and C++.
  *
  * A survey is a cell table (an octree) and a corner table (a sounding at every corner of every cell). At a clearance the surface between wet and dry
- * corners is drawn as points on the octree's edges and triangles between them. The calls are those of document 01, the scope document; what they
- * return, and what they write, is proved equal to its rules for every input.
+ * corners is drawn as points on the octree's edges and triangles between them. The calls are those of document 01, the scope document, with what the
+ * requests of document 02 add; what they return, and what they write, is proved equal to the documents' rules for every input.
  *
  * BUILDING
  *
@@ -80,6 +80,12 @@ enum clearance_refusal {
  */
 uint32_t clearance_check(const uint8_t *cells, size_t cells_length, const uint8_t *corners, size_t corners_length);
 
+/* The ends of an edge: the lower and the upper one on its axis. */
+enum clearance_end {
+    CLEARANCE_LOWER_END = 1,
+    CLEARANCE_UPPER_END = 2
+};
+
 /* What the enquiry says of an edge. */
 struct clearance_reply {
     uint32_t number; /* 0, or the first refusal of 1 to 8 or 11 that applies; then all else is 0 */
@@ -88,6 +94,7 @@ struct clearance_reply {
     float x; /* where the point is */
     float y;
     float z;
+    uint32_t wet_end; /* enum clearance_end: which end of the edge asked about is wet; the other one is dry */
 };
 
 /*

@@ -62,14 +62,15 @@ static void empty_tables(const uint8_t *corners)
 /* Whether a reply has this number and nothing else. */
 static int is_number_alone(struct clearance_reply reply, uint32_t number)
 {
-    return reply.number == number && reply.crossing == 0 && reply.point == 0 && reply.x == 0.0f && reply.y == 0.0f && reply.z == 0.0f;
+    return reply.number == number && reply.crossing == 0 && reply.point == 0 && reply.x == 0.0f && reply.y == 0.0f && reply.z == 0.0f
+        && reply.wet_end == 0;
 }
 
 static void enquiries(const uint8_t *corners)
 {
     struct clearance_reply crossing = clearance_enquire(cells, 4, corners, 80, 0.0f, 1, 0, 0, 0, 1024);
     EXPECT(crossing.number == 0 && crossing.crossing == 1 && crossing.point == 1);
-    EXPECT(crossing.x == 0.0f && crossing.y == 768.0f && crossing.z == 0.0f);
+    EXPECT(crossing.x == 0.0f && crossing.y == 768.0f && crossing.z == 0.0f && crossing.wet_end == CLEARANCE_LOWER_END);
     EXPECT(is_number_alone(clearance_enquire(cells, 4, corners, 80, 0.0f, 0, 0, 1024, 0, 1024), 0));
     EXPECT(is_number_alone(clearance_enquire(cells, 4, corners, 80, 0.0f, 0, 0, 0, 0, 512), CLEARANCE_NO_EDGE));
     EXPECT(is_number_alone(clearance_enquire(cells, 4, corners, 80, 2e6f, 0, 0, 0, 0, 1024), CLEARANCE_CLEARANCE));
@@ -120,8 +121,8 @@ int main(int count, char **arguments)
 {
     (void)arguments;
     uint8_t *wet = corner_table(3.0f);
-    uint8_t *dry = corner_table(-1.0f);
-    EXPECT(sizeof(struct clearance_counts) == 12 && sizeof(struct clearance_reply) == 24);
+    uint8_t *dry = corner_table(-3.0f);
+    EXPECT(sizeof(struct clearance_counts) == 12 && sizeof(struct clearance_reply) == 28);
     EXPECT(clearance_check(cells, 4, wet, 80) == 0);
     empty_tables(wet);
     enquiries(wet);
@@ -129,6 +130,8 @@ int main(int count, char **arguments)
     if (count > 1) {
         trespass(wet);
     }
+    struct clearance_reply rising = clearance_enquire(cells, 4, dry, 80, -2.0f, 1, 0, 0, 0, 1024);
+    EXPECT(rising.crossing == 1 && rising.y == 512.0f && rising.wet_end == CLEARANCE_UPPER_END);
     struct clearance_counts nothing = clearance_draw(cells, 4, dry, 80, 0.0f, NULL, 0, NULL, 0);
     EXPECT(nothing.number == 0 && nothing.points == 0 && nothing.triangles == 0);
     free(wet);

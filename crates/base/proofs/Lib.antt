@@ -5,3 +5,4 @@ pub mod Places
 pub mod Octants
 pub mod Counts
 pub mod Below
+pub mod Alike

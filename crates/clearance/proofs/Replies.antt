@@ -8,20 +8,24 @@ use lib.Dec.{eqb, ltb}
 use lib.Ieee.{Float}
 use Rattle.base.specs.Grid.{Place, axisOf}
 use Rattle.rules.specs.Survey.{cellsOf, cornersOf, wetAt}
-use Rattle.rules.specs.Edges.{Spot, isEdge, odd, numberOf, carrier, spotOn}
+use Rattle.rules.specs.Edges.{edge, Spot, isEdge, odd, numberOf, carrier, spotOn}
+use Rattle.rules.specs.WhichEnd.{wetEnd}
 use Rattle.rules.specs.Outputs.{firstOf, checks, surveyOf, levelOf, refused, even, crossing, enquiry}
+use Rattle.rules.specs.declared.End.{End}
+use Rattle.rules.specs.declared.End.the-variants.{Lower, Upper}
 use Rattle.clearance.specs.Reply.{replyOf, told}
 
 -- told of a refusal by a number, or of what was found where that is 0
-told-found : (number : ℕ) (isOdd : Bool) (n : ℕ) (place : Spot) →
-    let answer = cond (eqb number 0) (cond isOdd (crossing n place) even) (refused number) in told (replyOf answer) ≡ answer
-told-found number isOdd n place = go (eqb number 0) refl isOdd
+told-found : (number : ℕ) (isOdd : Bool) (n : ℕ) (place : Spot) (end : End) →
+    let answer = cond (eqb number 0) (cond isOdd (crossing n place end) even) (refused number) in told (replyOf answer) ≡ answer
+told-found number isOdd n place end = go (eqb number 0) refl isOdd end
   where
-    go : (b : Bool) → eqb number 0 ≡ b → (o : Bool) →
-        let answer = cond b (cond o (crossing n place) even) (refused number) in told (replyOf answer) ≡ answer
-    go true e true = refl
-    go true e false = refl
-    go false e o = rw e
+    go : (b : Bool) → eqb number 0 ≡ b → (o : Bool) (end : End) →
+        let answer = cond b (cond o (crossing n place end) even) (refused number) in told (replyOf answer) ≡ answer
+    go true e true Lower = refl
+    go true e true Upper = refl
+    go true e false end = refl
+    go false e o end = rw e
 
 pub told-enquiry : (tc tk : List ℕ) (clearance : Float) (axis : ℕ) (p : Place) (length : ℕ) →
     told (replyOf (enquiry tc tk clearance axis p length)) ≡ enquiry tc tk clearance axis p length
@@ -32,4 +36,4 @@ told-enquiry tc tk clearance axis p length =
     let l = levelOf length in
     let e = carrier s a p l in
     told-found (firstOf (checks tc tk clearance ++ (11, not (ltb axis 3 && isEdge (cellsOf tc) a p l)) ∷ []))
-    (odd (wetAt (cornersOf tk) clearance) a p l) (numberOf s e) (spotOn (cornersOf tk) clearance e)
+    (odd (wetAt (cornersOf tk) clearance) a p l) (numberOf s e) (spotOn (cornersOf tk) clearance e) (wetEnd (wetAt (cornersOf tk) clearance) (edge a p l))

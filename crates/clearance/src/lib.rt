@@ -1,15 +1,18 @@
-// What is exported to C and Rust: the calls of document 01, thin over the proved ones. A slice passes as a pointer and a length.
+// What is exported to C and Rust: the calls of document 01, with what the requests of document 02 add, thin over the proved ones. A slice passes as a
+// pointer and a length.
 use rules::Answer;
 use rules::Edge;
+use rules::End;
 ghost use mathlib.Core.Path.{_≡_};
 ghost use Rattle.rules.specs.Outputs.{surveyRefusal, surveyOf, enquiry, asked, answered, StaysOn};
 ghost use Rattle.rules.specs.Closing.{ClosedIn};
 ghost use Rattle.drawing.specs.Draws.{lent, Draws};
-ghost use Rattle.clearance.specs.Reply.{replyOf, told};
+ghost use Rattle.clearance.specs.Reply.{endNumber, replyOf, told};
 ghost use Rattle.rules.specs.declared.Answer.the-variants.{Found};
 ghost use Rattle.clearance.specs.Counts.{drawnOf};
 
-// The answer of an enquiry as plain numbers: the number returned, whether the edge is crossing, the point's number and its place.
+// The answer of an enquiry as plain numbers: the number returned, whether the edge is crossing, the point's number and its place, and the wet end: 1 the
+// lower, 2 the upper, 0 where there is none.
 #[repr(C)]
 pub struct Reply {
     pub number: u32,
@@ -18,6 +21,7 @@ pub struct Reply {
     pub x: f32,
     pub y: f32,
     pub z: f32,
+    pub wet_end: u32,
 }
 
 // What drawing returns: a number (0 if drawn) and both counts.
@@ -26,6 +30,15 @@ pub struct Counts {
     pub number: u32,
     pub points: u32,
     pub triangles: u32,
+}
+
+fn end_number(end: End) -> u32
+    ensures { λ r. ⌜ r ≡ endNumber end ⌝ }
+{
+    match end {
+        End::Lower => 1,
+        End::Upper => 2,
+    }
 }
 
 fn edge_reply(e: Edge) -> Reply
@@ -39,14 +52,16 @@ fn edge_reply(e: Edge) -> Reply
             x: 0.0,
             y: 0.0,
             z: 0.0,
+            wet_end: 0,
         },
-        Edge::Crossing(n, x, y, z) => Reply {
+        Edge::Crossing(n, x, y, z, end) => Reply {
             number: 0,
             crossing: 1,
             point: n,
             x,
             y,
             z,
+            wet_end: end_number(end),
         },
     }
 }
@@ -62,6 +77,7 @@ fn reply_of(a: Answer) -> Reply
             x: 0.0,
             y: 0.0,
             z: 0.0,
+            wet_end: 0,
         },
         Answer::Found(e) => edge_reply(e),
     }

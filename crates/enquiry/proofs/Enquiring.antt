@@ -7,18 +7,23 @@ use mathlib.Core.List.{List, [], _∷_, _++_}
 use native.Mathlib.Omega.{arith}
 use lib.Dec.{T, eqb, ltb}
 use lib.Ieee.{Float}
+use lib.ListN.{getD}
 use borrow.Author.Tests.{eq-eqb, ne-eqb, lt-ltb, le-ltb}
-use Rattle.base.specs.Lists.{first, count}
-use Rattle.base.specs.Grid.{Place, Axis, along, axisOf}
+use Rattle.base.specs.Lists.{first, count, bit}
+use Rattle.base.specs.Grid.{Place, Axis, along, move, axisOf}
 use Rattle.base.proofs.Tests.{→true, true→, either, eq→eqb, not-both}
 use Rattle.rules.specs.Survey.{cellsOf, cornersOf, wetAt, Survey}
-use Rattle.rules.specs.Edges.{isEdge, odd, numberOf, carrier, Spot, spotOn}
+use Rattle.rules.specs.Edges.{edge, isEdge, odd, numberOf, carrier, Spot, spotOn}
+use Rattle.rules.specs.WhichEnd.{wetEnd}
 use Rattle.rules.specs.Outputs.{firstOf, checks, accepted, surveyOf, levelOf, Enquired, refused, even, crossing, enquiry}
-use Rattle.records.specs.Keys.{keyOf, Short}
+use Rattle.rules.specs.declared.End.{End}
+use Rattle.rules.specs.declared.End.the-variants.{Lower, Upper}
+use Rattle.records.specs.Keys.{keyOf, placesOf, Short}
 use Rattle.octree.specs.Lawful.{Lawful}
 use Rattle.octree.proofs.Accepted.{lawful, numbered, first-append}
 use Rattle.octree.proofs.Edges.{edge→}
 use Rattle.octree.proofs.Aligned.{corner-place}
+use Rattle.edges.specs.Tables.{placeAt, UpperEnd, Wets}
 use Rattle.enquiry.specs.Enquiry.{edgeAnswer}
 
 -- ---- the level of a length
@@ -58,7 +63,8 @@ module _ (tc tk : List ℕ) (clearance : Float) (a : Axis) (p : Place) (l : ℕ)
   s = surveyOf tc tk clearance
 
   abbrev oddAnswer : Enquired
-  oddAnswer = crossing (numberOf s (carrier s a p l)) (spotOn (cornersOf tk) clearance (carrier s a p l))
+  oddAnswer =
+      crossing (numberOf s (carrier s a p l)) (spotOn (cornersOf tk) clearance (carrier s a p l)) (wetEnd (wetAt (cornersOf tk) clearance) (edge a p l))
 
   abbrev here : Enquired
   here = cond (odd (wetAt (cornersOf tk) clearance) a p l) oddAnswer even
@@ -71,7 +77,7 @@ module _ (tc tk : List ℕ) (clearance : Float) (a : Axis) (p : Place) (l : ℕ)
   answer-none h = sym (answer-is ∙ ap (λ b. cond b here (refused 11)) h)
 
   module _ (t : T (isEdge (cellsOf tc) a p l)) where
-    found-here : here ≡ edgeAnswer tc tk clearance a p l
+    pub found-here : here ≡ edgeAnswer tc tk clearance a p l
     found-here = sym (answer-is ∙ ap (λ b. cond b here (refused 11)) (true→ (isEdge (cellsOf tc) a p l) t))
 
     pub answer-even : odd (wetAt (cornersOf tk) clearance) a p l ≡ false → even ≡ edgeAnswer tc tk clearance a p l
@@ -80,8 +86,21 @@ module _ (tc tk : List ℕ) (clearance : Float) (a : Axis) (p : Place) (l : ℕ)
     pub answer-crossing : odd (wetAt (cornersOf tk) clearance) a p l ≡ true → (n : ℕ) → n ≡ numberOf (surveyOf tc tk clearance)
         (carrier (surveyOf tc tk clearance) a p l) →
         (q : Spot) → q ≡ spotOn (cornersOf tk) clearance (carrier (surveyOf tc tk clearance) a p l) →
-        crossing n q ≡ edgeAnswer tc tk clearance a p l
-    answer-crossing h n e q f = (λ i. crossing (e i) (f i)) ∙ ap (λ b. cond b oddAnswer even) (sym h) ∙ found-here
+        (end : End) → end ≡ wetEnd (wetAt (cornersOf tk) clearance) (edge a p l) →
+        crossing n q end ≡ edgeAnswer tc tk clearance a p l
+    answer-crossing h n e q f end g = (λ i. crossing (e i) (f i) (g i)) ∙ ap (λ b. cond b oddAnswer even) (sym h) ∙ found-here
+
+-- the wet end is read off the mark of the record at the upper end
+pub wet-read : (t : List ℕ) (clearance : Float) (wets : List ℕ) → Wets t clearance wets → (a : Axis) (p : Place) (l k m : ℕ) → UpperEnd t a k l m →
+    placeAt (placesOf t) k ≡ p → cond (eqb (getD wets m 0) 0) Lower Upper ≡ wetEnd (wetAt (cornersOf t) clearance) (edge a p l)
+unfolding wetEnd
+wet-read t clearance wets w a p l k m u e =
+    ap (λ n. cond (eqb n 0) Lower Upper) (w .entry m (u .inside)) ∙ marked (wetAt (cornersOf t) clearance (placeAt (placesOf t) m)) ∙
+    ap (λ q. cond (wetAt (cornersOf t) clearance q) Upper Lower) (u .place ∙ ap (move a (2 ^ l)) e)
+  where
+    marked : (b : Bool) → cond (eqb (bit b) 0) Lower Upper ≡ cond b Upper Lower
+    marked true = refl
+    marked false = refl
 
 -- ---- an accepted survey
 

@@ -1,2 +1,3 @@
 pub mod Enquiring
 pub mod Staying
+pub mod StepByAnswers

@@ -11,6 +11,8 @@ use Rattle.base.specs.Grid.{Place, Axis, axisOf}
 use Rattle.base.proofs.Tests.{→true, true→}
 use Rattle.rules.specs.Survey.{cellsOf, cornersOf, wetAt, Survey}
 use Rattle.rules.specs.Edges.{CellEdge, edge, isEdge, odd, numberOf, carrier, spotOn, OnEdge}
+use Rattle.rules.specs.WhichEnd.{wetEnd}
+use Rattle.rules.specs.declared.End.{End}
 use Rattle.rules.specs.Outputs.{firstOf, checks, accepted, surveyOf, levelOf, asked, Enquired, refused, even, crossing, enquiry, StaysOn}
 use Rattle.octree.specs.Lawful.{Lawful}
 use Rattle.octree.proofs.Accepted.{lawful}
@@ -54,11 +56,14 @@ module _ (tc tk : List ℕ) (clearance : Float) where
     abbrev number : ℕ
     number = firstOf (checks tc tk clearance ++ (11, last tc tk clearance axis p size) ∷ [])
 
+    abbrev end : End
+    end = wetEnd (wetAt (cornersOf tk) clearance) (asked axis p size)
+
     pub enquiry-stays : StaysOn (surveyOf tc tk clearance) (asked axis p size) (enquiry tc tk clearance axis p size)
     enquiry-stays = subst (StaysOn s (asked axis p size)) (sym (enquiry-is tc tk clearance axis p size)) (go (eqb number 0) refl isOdd refl)
       where
         go : (b : Bool) → eqb number 0 ≡ b → (o : Bool) → isOdd ≡ o →
-            StaysOn s (asked axis p size) (cond b (cond o (crossing (numberOf s e) (spotOn (cornersOf tk) clearance e)) even) (refused number))
+            StaysOn s (asked axis p size) (cond b (cond o (crossing (numberOf s e) (spotOn (cornersOf tk) clearance e) end) even) (refused number))
         go false h o k = record { on-asked = tt; on-carrier = tt }
         go true h false k = record { on-asked = tt; on-carrier = tt }
         go true h true k =

@@ -1,8 +1,8 @@
 // The enquiry of an accepted survey, from the tables.
 ghost use mathlib.Core.Path.{_≡_};
-ghost use mathlib.Core.Bool.{true};
+ghost use mathlib.Core.Bool.{true, cond};
 ghost use Prim.Native.Nat.{_/_, _≤_, _<_};
-ghost use lib.Dec.{T};
+ghost use lib.Dec.{T, eqb};
 ghost use lib.ListN.{length};
 ghost use Rattle.base.specs.Grid.{Place, axisOf};
 ghost use Rattle.rules.specs.Outputs.{accepted, surveyOf, answered};
@@ -11,8 +11,20 @@ ghost use Rattle.cells.specs.Laid.{Laid};
 ghost use Rattle.octants.specs.Octants.{Octants};
 ghost use Rattle.edges.specs.Tables.{crossedSlot, slotsBelow, Levelled, Wets};
 ghost use Rattle.enquiry.specs.Enquiry.{edgeAnswer};
+ghost use Rattle.rules.specs.declared.End.the-variants.{Lower, Upper};
 use rules::Answer;
 use rules::Edge;
+use rules::End;
+
+// The wet end of an odd edge, by the mark of its upper end.
+fn wet_end(mark: u8) -> End
+    ensures { λ r. ⌜ r ≡ cond (eqb mark 0) Lower Upper ⌝ }
+{
+    if mark == 0 {
+        return End::Lower;
+    }
+    End::Upper
+}
 
 // How many crossed slots come before a crossed one. Slots for which there are no corner records are passed over.
 fn count_crossed(
@@ -67,13 +79,15 @@ fn edge_answer(
         return Answer::Refused(11);
     }
     let end = edges::ends::upper_end(cells, corners, slots, axis, k, level);
-    if wets[k] == wets[end] {
+    let lower = wets[k];
+    let upper = wets[end];
+    if lower == upper {
         return Answer::Found(Edge::Even);
     }
     let slot = edges::ends::carrier_slot(cells, corners, clearance, wets, slots, axis, k, level);
     let n = count_crossed(cells, corners, clearance, wets, slots, slot) as u32;
     let p = edges::slot_point(cells, corners, clearance, slots, slot);
-    Answer::Found(Edge::Crossing(n, p.x, p.y, p.z))
+    Answer::Found(Edge::Crossing(n, p.x, p.y, p.z, wet_end(upper)))
 }
 
 // The enquiry of an accepted survey: the tables of its edges, and the answer from them.

@@ -1,4 +1,4 @@
-// The edge enquiry: whether an edge is even or crossing, and where. Uses checks and edges.
+// The edge enquiry: whether an edge is even or crossing, where, and which end is wet. Uses checks and edges.
 ghost use mathlib.Core.Path.{_≡_};
 ghost use Rattle.rules.specs.Outputs.{surveyOf, levelOf, enquiry, asked, answered, StaysOn};
 use rules::Answer;
@@ -21,7 +21,7 @@ fn level_of(size: u32) -> u8
     11
 }
 
-// The edge enquiry: document 01, "Edges, points and places". By axis (0 to 2), lower end and length.
+// The edge enquiry: document 01, "Edges, points and places", and document 02, "Which end is wet". By axis (0 to 2), lower end and length.
 pub fn enquire(
     cells: &[u8],
     corners: &[u8],

@@ -12,7 +12,7 @@ use Rattle.base.proofs.Lists.{In, all→in, count-in}
 use Rattle.rules.specs.Steps.{Step, steps}
 use native.Mathlib.Omega.{arith}
 use Rattle.faces.specs.Patterns.{stepFrom, firstEntry, patternOf, stepTo}
-use Rattle.digits.proofs.Alike.{alike}
+use Rattle.base.proofs.Alike.{alike}
 
 -- the wet marks at the ends of edge i differ
 abbrev pub differ : Bool → Bool → Bool → Bool → ℕ → Bool

@@ -16,7 +16,7 @@ use Rattle.rules.specs.Steps.{Side, upperSide, lowerSide, Face, faceCorner, fac
 use Rattle.across.specs.Across.{sideNumber}
 use Rattle.crossings.specs.Crossings.{edgeAt}
 use Rattle.faces.specs.Faces.{rowSide, rowUpper, faceOn, cornerOn, edgeOn, rowCorner, rowEdge}
-use Rattle.digits.proofs.Alike.{Alike, alike}
+use Rattle.base.proofs.Alike.{Alike, alike}
 
 abbrev sideOn : Axis → Bool → Side
 sideOn a true = upperSide a

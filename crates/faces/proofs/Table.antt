@@ -7,7 +7,7 @@ use native.Mathlib.Nat.{add-zero, zero-add, add-suc, suc-add, le-of-suc-le-suc, 
 use lib.Dec.{T, eqb, eqb→eq}
 use lib.ListN.{length, getD}
 use Rattle.base.specs.Lists.{count}
-use Rattle.digits.proofs.Alike.{Alike, alike}
+use Rattle.base.proofs.Alike.{Alike, alike}
 
 abbrev both : Bool → Bool → Bool
 both true b = b

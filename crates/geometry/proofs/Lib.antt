@@ -21,3 +21,4 @@ pub mod Theorem
 pub mod Nested
 pub mod Touching
 pub mod SmallFaces
+pub mod FaceEdges

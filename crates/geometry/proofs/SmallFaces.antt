@@ -16,7 +16,7 @@ use lib.ListN.{replicate}
 use Rattle.base.specs.Lists.{any, keep, sum, bit}
 use Rattle.base.specs.Grid.{Place, origin, Axis, X, Y, Z, next, along, put, move, back, same}
 use Rattle.rules.specs.Survey.{Cell, cell, size, cellsOf, Survey, cellsFrom}
-use Rattle.rules.specs.Steps.{Side, upperSide, lowerSide, sides, sideLow, Face, face, splitAcross, smallFaces}
+use Rattle.rules.specs.Steps.{Side, upperSide, lowerSide, sideBy, sides, Face, face, sameFace, sideLow, splitAcross, smallFaces}
 use Rattle.rules.specs.Outputs.{accepted, surveyOf}
 use Rattle.base.proofs.Tests.{and→, →and, →true, either, tests-equal, bit-true, bit-le}
 use Rattle.base.proofs.Lists.{In, any→in, in→any}
@@ -25,10 +25,10 @@ use Rattle.base.proofs.Places.{every-axis, same→, along-put, put-put, put-alo
 use Rattle.octree.specs.Lawful.{isAt, isCell, copies, Octree, Lawful}
 use Rattle.octree.proofs.Cells.{→at, →cell}
 use Rattle.octree.proofs.Accepted.{lawful}
-use Rattle.geometry.specs.SmallFaces.{sameFace, sideOf, opposite, isAcross, splitBeyond, meets, inside, touches, isSideInside, isSmallFace}
+use Rattle.geometry.specs.SmallFaces.{sideOf, opposite, isAcross, splitBeyond, meets, inside, touches, isSideInside, isSmallFace}
 use Rattle.geometry.proofs.Grid.{place, half, along-across, along-first, along-second, place-of}
 use Rattle.geometry.proofs.Nested.{bit-no, axes→, →axes, inside→}
-use Rattle.geometry.proofs.Touching.{sideBy, nearAt, own-low, near-low, fits, fits→, →fits, part, small-own, small-near}
+use Rattle.geometry.proofs.Touching.{nearAt, own-low, near-low, fits, fits→, →fits, part, small-own, small-near}
 
 -- ---- the sentence on one leaf
 
@@ -90,7 +90,7 @@ back-move a s p =
 
 -- ---- the cell across
 
-same-face→ : (f g : Face) → T (sameFace f g) → (f .level ≡ g .level) × (f .low ≡ g .low)
+pub same-face→ : (f g : Face) → T (sameFace f g) → (f .level ≡ g .level) × (f .low ≡ g .low)
 same-face→ f g t =
     let u = and→ (eqb (f .level) (g .level)) (same (f .low) (g .low)) t in
     (eqb→eq (f .level) (g .level) (u .0), same→ (f .low) (g .low) (u .1))
@@ -154,7 +154,7 @@ plane→ a false c e d x i t = let (f, g) = inside→ e d i a in let (h, k) = to
 -- ---- the faces beyond one side
 
 -- what document 01 says of a leaf whose side is a small face
-side-inside→ : (side : Side) (c : Cell) (f : Face) (e d : Cell) → T (isSideInside side c f e d) →
+pub side-inside→ : (side : Side) (c : Cell) (f : Face) (e d : Cell) → T (isSideInside side c f e d) →
     T (inside e d) × T (touches c d) × T (not (d .split)) × T (sameFace f (sideOf (opposite side) d))
 side-inside→ side c f e d t =
     let is = sameFace f (sideOf (opposite side) d) in
@@ -287,6 +287,16 @@ module _ (cells : List Cell) (tree : Octree cells) (a : Axis) (b : Bool) (c : Ce
           let (e, i, t) = any→in (splitBeyond side c) cells (→true h) in
           across-listed e i (and→ (e .split) (isAcross side c e) t .1) ∙ ap bit (some e i t)
 
+  -- so the faces that they list are those that the sentence names
+  pub named-by : any (sameFace f) (smallFaces cells (sideBy a b) (sideLow (sideBy a b) c) (c .level)) ≡ isSmallFace cells (sideBy a b) c f
+  named-by =
+      let faces = smallFaces cells (sideBy a b) (sideLow (sideBy a b) c) (c .level) in
+      let named = isSmallFace cells (sideBy a b) c f in
+      let g : times sameFace f faces ≡ bit (any (sameFace f) faces) = any-once (sameFace f) faces (omega (arith, small-by, bit-le named true (λ t. tt))) in
+      tests-equal (any (sameFace f) faces) named
+      (λ t. bit→ named (omega (arith, small-by, bit-true (any (sameFace f) faces) t)))
+      (λ t. bit→ (any (sameFace f) faces) (omega (arith, small-by, bit-true named t)))
+
 -- ---- the law
 
 each-side : (side : Side) → In side sides → (a : Axis) × (b : Bool) × (side ≡ sideBy a b)
@@ -307,17 +317,13 @@ module _ (s : Survey) (law : Lawful s) where
       subst (λ side. times sameFace f (smallFaces (s .cells) side (sideLow side c) (c .level)) ≡ bit (isSmallFace (s .cells) side c f)) (sym e)
       (small-by (s .cells) (law .octree) a b c f)
 
-  -- so the faces that the rules list are those that the sentence names
+  -- the faces that the rules list are those that the sentence names
   pub faces-named : (c : Cell) (side : Side) → In side sides → (f : Face) →
       any (sameFace f) (smallFaces (s .cells) side (sideLow side c) (c .level)) ≡ isSmallFace (s .cells) side c f
   faces-named c side i f =
-      let faces = smallFaces (s .cells) side (sideLow side c) (c .level) in
-      let named = isSmallFace (s .cells) side c f in
-      let e : times sameFace f faces ≡ bit named = small-faces c side i f in
-      let g : times sameFace f faces ≡ bit (any (sameFace f) faces) = any-once (sameFace f) faces (omega (arith, bit-le named true (λ t. tt))) in
-      tests-equal (any (sameFace f) faces) named
-      (λ t. bit→ named (omega (arith, bit-true (any (sameFace f) faces) t)))
-      (λ t. bit→ (any (sameFace f) faces) (omega (arith, bit-true named t)))
+      let (a, b, e) = each-side side i in
+      subst (λ side. any (sameFace f) (smallFaces (s .cells) side (sideLow side c) (c .level)) ≡ isSmallFace (s .cells) side c f) (sym e)
+      (named-by (s .cells) (law .octree) a b c f)
 
 -- The same of every survey that is accepted: a face is listed where the sentence names it, and no face is listed twice.
 pub accepted-faces : (tc tk : List ℕ) (clearance : Float) → T (accepted tc tk clearance) → (c : Cell) (side : Side) → In side sides → (f : Face) →

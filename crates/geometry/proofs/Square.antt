@@ -41,7 +41,7 @@ corner-above a k n u v = (
   move-first a (2 ^ k) n u v,
 )
 
-edge-below : (a : Axis) (k n u v i : ℕ) → faceEdge (upperSide a) (face (place a n u v) k) i ≡ squareEdge a k n u v i
+pub edge-below : (a : Axis) (k n u v i : ℕ) → faceEdge (upperSide a) (face (place a n u v) k) i ≡ squareEdge a k n u v i
 edge-below a k n u v zero = ap (λ p. edge (next a) p k) (turn-first a n u v)
 edge-below a k n u v (suc zero) = ap (λ p. edge (next (next a)) p k) (move-first a (2 ^ k) n u v ∙ turn-second a n (u + 2 ^ k) v)
 edge-below a k n u v (suc (suc zero)) = ap (λ p. edge (next a) p k) (move-second a (2 ^ k) n u v ∙ turn-first a n u (v + 2 ^ k))

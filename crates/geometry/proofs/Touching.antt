@@ -11,7 +11,7 @@ use lib.Dec.{T, eqb, eqb→eq}
 use Rattle.base.specs.Lists.{any, sum, bit}
 use Rattle.base.specs.Grid.{Place, Axis, X, Y, Z, next, along}
 use Rattle.rules.specs.Survey.{Cell, cell}
-use Rattle.rules.specs.Steps.{Side, upperSide, lowerSide, sideLow, Face, face, splitAcross, smallFaces}
+use Rattle.rules.specs.Steps.{upperSide, lowerSide, sideBy, Face, face, sameFace, sideLow, splitAcross, smallFaces}
 use Rattle.base.proofs.Tests.{and→, →and, true→, false→, either, not-both, eq→eqb, below, bit-true}
 use Rattle.base.proofs.Lists.{In}
 use Rattle.base.proofs.Sums.{sum-add, sum-times, sum-same, in-sum, times}
@@ -19,18 +19,13 @@ use Rattle.octree.specs.Lawful.{isAt, isCell, isSplit, copies, Octree}
 use Rattle.octree.proofs.Cells.{at→, →at, is-at, cell→, →cell, split-cell}
 use Rattle.octree.proofs.Aligned.{cell-aligned}
 use Rattle.octree.proofs.Inside.{split-of, no-cell-inside}
-use Rattle.geometry.specs.SmallFaces.{sameFace, sideOf, opposite, inside}
+use Rattle.geometry.specs.SmallFaces.{sideOf, opposite, inside}
 use Rattle.geometry.proofs.Grid.{At, place, half, far, four, total, total-divided, total-whole, along-across, along-first, along-second}
 use Rattle.geometry.proofs.Sides.{over, under, over-is, under-is, corner-halves}
 use Rattle.geometry.proofs.Small.{small-total, quarters-above, quarters-below}
 use Rattle.geometry.proofs.Nested.{bit-no, halves, between, lies-yes, inside-parts, inside-self, inside-large, inside-holds, inside-same, no-leaf-inside}
 
 -- ---- sides, by axis
-
--- the upper or the lower side on an axis
-abbrev pub sideBy : Axis → Bool → Side
-sideBy a true = upperSide a
-sideBy a false = lowerSide a
 
 -- where, on the axis, a cell of level k at n beyond such a side has its side towards the leaf
 abbrev pub near : Bool → ℕ → ℕ → ℕ

@@ -6,14 +6,11 @@
 use Prim.Native.Nat.{ℕ, _+_}
 use mathlib.Core.Bool.{Bool, not, _&&_, cond}
 use mathlib.Core.List.{List}
-use lib.Dec.{eqb, leb}
+use lib.Dec.{leb}
 use Rattle.base.specs.Lists.{any, all}
-use Rattle.base.specs.Grid.{axes, along, same}
+use Rattle.base.specs.Grid.{axes, along}
 use Rattle.rules.specs.Survey.{Cell, size}
-use Rattle.rules.specs.Steps.{Side, upperSide, lowerSide, sideLow, Face, face}
-
-abbrev pub sameFace : Face → Face → Bool
-sameFace f g = eqb (f .level) (g .level) && same (f .low) (g .low)
+use Rattle.rules.specs.Steps.{Side, upperSide, lowerSide, Face, face, sameFace, sideLow}
 
 -- a cell's side, as a face
 abbrev pub sideOf : Side → Cell → Face

@@ -1,5 +1,5 @@
 -- Both halves of a divided edge are edges; an odd edge has exactly one odd half; the edge that carries the point of an odd edge is odd and
--- undivided. For any axis.
+-- undivided, and has the same end wet. For any axis.
 use Prim.Native.Nat.{ℕ, zero, suc, _+_, _^_, _<_}
 use mathlib.Core.Path.{_≡_, refl, sym, ap, _∙_, subst}
 use mathlib.Core.Logic.{_⊎_, inl, inr}
@@ -10,7 +10,10 @@ use native.Mathlib.Omega.{arith}
 use lib.Dec.{T}
 use Rattle.base.specs.Grid.{Place, Axis, along, put, move}
 use Rattle.rules.specs.Survey.{Cell, Survey}
-use Rattle.rules.specs.Edges.{edge, isEdge, divided, undivided, odd, carrier}
+use Rattle.rules.specs.Edges.{CellEdge, edge, isEdge, divided, undivided, odd, carrier}
+use Rattle.rules.specs.WhichEnd.{wetEnd}
+use Rattle.rules.specs.declared.End.{End}
+use Rattle.rules.specs.declared.End.the-variants.{Lower, Upper}
 use Rattle.base.proofs.Tests.{→and, or→}
 use Rattle.base.proofs.Places.{along-put, put-both, put-one, put-put, put-along}
 use Rattle.octree.specs.Lawful.{isSplit, CornerOf, Octree}
@@ -107,6 +110,24 @@ one-odd-half isWet a p l t =
     marks false false true t = refl
     marks false y false t = absurd t
 
+-- an odd lower half of an odd edge has the same end wet; the upper half of any edge ends where the edge does
+lower-half-wet : (isWet : Place → Bool) (a : Axis) (p : Place) (l : ℕ) → T (odd isWet a p (suc l)) → T (odd isWet a p l) →
+    wetEnd isWet (edge a p l) ≡ wetEnd isWet (edge a p (suc l))
+unfolding odd wetEnd
+lower-half-wet isWet a p l o e = marks (isWet p) (isWet (move a (2 ^ l) p)) (isWet (move a (2 ^ suc l) p)) e o
+  where
+    marks : (x y z : Bool) → T (not (Bool·beq x y)) → T (not (Bool·beq x z)) → cond y Upper Lower ≡ cond z Upper Lower
+    marks true true z e o = absurd e
+    marks true false true e o = absurd o
+    marks true false false e o = refl
+    marks false true true e o = refl
+    marks false true false e o = absurd o
+    marks false false z e o = absurd e
+
+upper-half-wet : (isWet : Place → Bool) (a : Axis) (p : Place) (l : ℕ) → wetEnd isWet (edge a (move a (2 ^ l) p) l) ≡ wetEnd isWet (edge a p (suc l))
+unfolding wetEnd
+upper-half-wet isWet a p l = ap (λ q. cond (isWet q) Upper Lower) (move-move a l p)
+
 module _ (s : Survey) (tree : Octree (s .cells)) where
   here : (a : Axis) (p : Place) (l : ℕ) → T (isEdge (s .cells) a p l) → T (odd (s .isWet) a p l) → T (not (divided (s .cells) a p l)) → Crossed s (edge a p l)
   unfolding undivided
@@ -128,3 +149,22 @@ module _ (s : Survey) (tree : Octree (s .cells)) where
       go true true f g h = f tt tt
       go true false f g h = g tt tt
       go false o f g h = h tt
+
+  -- and it has the same end wet: what the enquiry tells of the edge asked about is true of the edge that carries the point
+  pub carrier-wet : (a : Axis) (p : Place) (l : ℕ) → T (odd (s .isWet) a p l) → wetEnd (s .isWet) (carrier s a p l) ≡ wetEnd (s .isWet) (edge a p l)
+  unfolding carrier
+  carrier-wet a p zero o = refl
+  carrier-wet a p (suc l) o =
+      go (divided (s .cells) a p (suc l)) (odd (s .isWet) a p l)
+      (λ e. carrier-wet a p l e ∙ lower-half-wet (s .isWet) a p l o e)
+      (λ e. carrier-wet a (move a (2 ^ l) p) l (subst T (sym (one-odd-half (s .isWet) a p l o)) e) ∙ upper-half-wet (s .isWet) a p l)
+    where
+      end : CellEdge → End
+      end = wetEnd (s .isWet)
+
+      go : (d o : Bool) → (T o → end (carrier s a p l) ≡ end (edge a p (suc l))) →
+          (T (not o) → end (carrier s a (move a (2 ^ l) p) l) ≡ end (edge a p (suc l))) →
+          end (cond d (cond o (carrier s a p l) (carrier s a (move a (2 ^ l) p) l)) (edge a p (suc l))) ≡ end (edge a p (suc l))
+      go true true f g = f tt
+      go true false f g = g tt
+      go false o f g = refl

@@ -80,11 +80,11 @@ drawings =
     f256 ∷ 0x43d5_5555 ∷ f512 ∷ f64 ∷ 0x43ea_aaab ∷ f512 ∷ f256 ∷ f512 ∷ 0x43d5_5555 ∷ f64 ∷ f512 ∷ 0x43ea_aaab ∷
     0 ∷ 1 ∷ 7 ∷ 2 ∷ 3 ∷ 6 ∷ 0 ∷ 5 ∷ 1 ∷ 2 ∷ 4 ∷ 3 ∷ 3 ∷ 4 ∷ 6 ∷ 2 ∷ 6 ∷ 4 ∷ 0 ∷ 7 ∷ 5 ∷ 1 ∷ 5 ∷ 7 ∷ []) ∷
     -- the point of an odd divided edge is that of its odd half, placed on that half: wet 3 at 0, dry -1 at 256 and at 512
-    example twins (at (place 0 0 0 ∷ []) three minusOne) (asking 0 (place 0 0 0) 512) (0 ∷ 0 ∷ 0x4340_0000 ∷ 0 ∷ 0 ∷ []) ∷
+    example twins (at (place 0 0 0 ∷ []) three minusOne) (asking 0 (place 0 0 0) 512) (0 ∷ 0 ∷ 0x4340_0000 ∷ 0 ∷ 0 ∷ 1 ∷ []) ∷
     -- a divided edge that is even, though its halves are odd
     example twins (wetAtOnly (place 256 0 0 ∷ [])) (asking 0 (place 0 0 0) 512) (0 ∷ []) ∷
     -- a place is reckoned from the dry end: wet 1 at 0, dry -2 at 1,024 gives 1,024 - 682.6667 and not 341.33334
-    example leaf (at (place 0 0 0 ∷ []) one 0xc000_0000) (asking 0 (place 0 0 0) 1024) (0 ∷ 0 ∷ 0x43aa_aaaa ∷ 0 ∷ 0 ∷ []) ∷
+    example leaf (at (place 0 0 0 ∷ []) one 0xc000_0000) (asking 0 (place 0 0 0) 1024) (0 ∷ 0 ∷ 0x43aa_aaaa ∷ 0 ∷ 0 ∷ 1 ∷ []) ∷
     -- the child in place 1 is in the upper half of x: split, it has this edge
     example insideSide centre (asking 0 (place 256 0 0) 128) (0 ∷ []) ∷
     example insideSide centre (asking 1 (place 0 256 0) 128) (11 ∷ []) ∷ []

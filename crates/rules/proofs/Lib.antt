@@ -1,3 +1,4 @@
 pub mod Surveys
 pub mod Starred
 pub mod Further
+pub mod WhichEnd

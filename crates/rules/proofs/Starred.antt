@@ -68,7 +68,7 @@ starred =
     (0 ∷ 6 ∷ 2 ∷ f512 ∷ 0 ∷ 0 ∷ f512 ∷ f1024 ∷ 0 ∷ 0 ∷ f512 ∷ 0 ∷ f1024 ∷ f512 ∷ 0 ∷ 0 ∷ 0 ∷ f512 ∷ f1024 ∷ f1024 ∷ f512 ∷
     0 ∷ 2 ∷ 4 ∷ 1 ∷ 3 ∷ 5 ∷ []) ∷
     -- dry -1 at 0, wet 3 at 256
-    example twins (at (place 256 0 0 ∷ []) three minusOne) (asking 0 (place 0 0 0) 256) (0 ∷ 0 ∷ f64 ∷ 0 ∷ 0 ∷ []) ∷
+    example twins (at (place 256 0 0 ∷ []) three minusOne) (asking 0 (place 0 0 0) 256) (0 ∷ 0 ∷ f64 ∷ 0 ∷ 0 ∷ 2 ∷ []) ∷
     -- sounding 0 at clearance 0, and sounding -0
     example leaf (at (place 0 0 0 ∷ []) 0 minusOne) (drawing 9 3) (0 ∷ 3 ∷ 1 ∷ replicate 9 0 ++ 0 ∷ 1 ∷ 2 ∷ []) ∷
     example leaf (at (place 0 0 0 ∷ []) 0x8000_0000 minusOne) (drawing 9 3) (0 ∷ 3 ∷ 1 ∷ replicate 9 0 ++ 0 ∷ 1 ∷ 2 ∷ []) ∷

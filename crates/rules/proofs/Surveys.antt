@@ -1,18 +1,21 @@
 -- Small surveys as tables of bytes, what a call on one gives as a list of numbers, and the common statement of all examples.
 -- Assumes nothing.
-use Prim.Native.Nat.{ℕ, zero, suc, _+_, _/_, _%_}
+use Prim.Native.Nat.{ℕ, zero, suc, _/_, _%_}
 use mathlib.Core.Path.{_≡_, refl, ap₂}
 use mathlib.Core.Bool.{Bool, true, false, _&&_, cond}
 use mathlib.Core.List.{List, [], _∷_, _++_, map}
 use lib.Dec.{eqb, eqb→eq, T}
-use lib.ListN.{replicate}
+use lib.ListN.{length, replicate}
 use lib.Ieee.{Float, binary32, ofBits, toBits}
 use Rattle.base.specs.Lists.{any, all, keep, collect}
-use Rattle.base.specs.Grid.{Place, origin, X, axes, same}
+use Rattle.base.specs.Grid.{Place, origin, Axis, X, axes, same}
 use Rattle.rules.specs.Survey.{cellsOf}
 use Rattle.rules.specs.Edges.{onSide}
-use Rattle.rules.specs.Steps.{steps, saddleCut}
-use Rattle.rules.specs.Outputs.{surveyRefusal, Drawing, draw, Enquired, refused, even, crossing, enquiry, coordinates}
+use Rattle.rules.specs.Steps.{sideBy, Face, Step, steps, saddleCut, faceSteps}
+use Rattle.rules.specs.Outputs.{surveyRefusal, surveyOf, Drawing, draw, Enquired, refused, even, crossing, enquiry, coordinates}
+use Rattle.rules.specs.StepByAnswers.{faceAnswers, stepBy}
+use Rattle.rules.specs.declared.End.{End}
+use Rattle.rules.specs.declared.End.the-variants.{Lower, Upper}
 
 -- ---- tables
 
@@ -82,12 +85,14 @@ split = record { cells = cellTable (1 ∷ leaves 8); corners = grid (0 ∷ 512 �
 
 -- ---- calls and their answers
 
--- a check by itself; a drawing with slices of two lengths; an enquiry by axis, lower end and length; the steps of a face by its four wet marks
+-- a check by itself; a drawing with slices of two lengths; an enquiry by axis, lower end and length; the steps of a face by its four wet marks; the steps
+-- in a small face by the rules, with their count, and then by the answers for its four edges
 pub data Call : Type 0 where
   checking : Call
   drawing : ℕ → ℕ → Call
   asking : ℕ → Place → ℕ → Call
   stepping : Bool → Bool → Bool → Bool → Call
+  seeing : Axis → Bool → Face → Call
 
 -- two tables, the bits of a clearance, a call and its answer
 pub record Example : Type 0 where
@@ -129,19 +134,30 @@ abbrev pub drawingNumbers : Drawing → List ℕ
 unfolding toBits
 drawingNumbers d = d .result .number ∷ d .result .points ∷ d .result .triangles ∷ map bits (d .points) ++ d .triangles
 
--- an enquiry's answer: the number returned, and for a crossing the point's number and the bits of its place
+-- an end by the number that C has for it
+abbrev pub endNumber : End → ℕ
+endNumber Lower = 1
+endNumber Upper = 2
+
+-- an enquiry's answer: the number returned, and for a crossing the point's number, the bits of its place and the wet end
 abbrev pub answerNumbers : Enquired → List ℕ
 unfolding toBits
 answerNumbers (refused n) = n ∷ []
 answerNumbers even = 0 ∷ []
-answerNumbers (crossing n place) = 0 ∷ n ∷ map bits (coordinates place)
+answerNumbers (crossing n place end) = 0 ∷ n ∷ map bits (coordinates place) ++ endNumber end ∷ []
+
+abbrev pub stepNumbers : List Step → List ℕ
+stepNumbers ss = collect (λ t. t .0 ∷ t .1 ∷ []) ss
 
 unfoldable pub outcome : Call → Float → List ℕ → List ℕ → List ℕ
-unfolding surveyRefusal draw enquiry ofBits toBits saddleCut
+unfolding surveyRefusal draw enquiry ofBits toBits saddleCut surveyOf faceSteps faceAnswers
 outcome checking clearance tc tk = surveyRefusal tc tk ∷ []
 outcome (drawing n m) clearance tc tk = drawingNumbers (draw tc tk clearance (replicate n (ofBits binary32 oldFloat)) (replicate m oldNumber))
 outcome (asking a p l) clearance tc tk = answerNumbers (enquiry tc tk clearance a p l)
-outcome (stepping a b c d) clearance tc tk = collect (λ t. t .0 ∷ t .1 ∷ []) (steps (saddleCut X origin 0) a b c d)
+outcome (stepping a b c d) clearance tc tk = stepNumbers (steps (saddleCut X origin 0) a b c d)
+outcome (seeing a upper f) clearance tc tk =
+    let ss = faceSteps (surveyOf tc tk clearance) (sideBy a upper) f in
+    length ss ∷ stepNumbers ss ++ stepNumbers (stepBy upper (faceAnswers tc tk clearance a f))
 
 unfoldable pub outcomeOf : Example → List ℕ
 unfolding outcome ofBits

@@ -1,4 +1,5 @@
--- Document 01, "Outputs and refusals": the checks in their order, and what each call gives for every input.
+-- Document 01, "Outputs and refusals": the checks in their order, and what each call gives for every input. The enquiry's answer has document 02's wet end
+-- (request 1) too.
 use Prim.Native.Nat.{ℕ, suc, _+_, _*_, _%_, _^_}
 use mathlib.Core.Bool.{Bool, true, false, not, _&&_, _||_, cond}
 use mathlib.Core.List.{List, [], _∷_, _++_, map}
@@ -11,6 +12,8 @@ use Rattle.base.specs.Grid.{Place, axisOf, same}
 use Rattle.rules.specs.Survey.{Cell, entries, cellsOf, cellCorners, cornersOf, placeOf, wetAt, Survey}
 use Rattle.rules.specs.Edges.{CellEdge, edge, isEdge, odd, pointEdges, numberOf, carrier, Spot, spotOn, OnEdge}
 use Rattle.rules.specs.Steps.{saddleCut, Triangle, allTriangles}
+use Rattle.rules.specs.WhichEnd.{wetEnd}
+use Rattle.rules.specs.declared.End.{End}
 use Rattle.rules.specs.declared.Edge.the-variants.{Even, Crossing}
 use Rattle.rules.specs.declared.Answer.{Answer}
 use Rattle.rules.specs.declared.Answer.the-variants.{Refused, Found}
@@ -142,15 +145,15 @@ levelOf length = first (λ l. eqb (2 ^ l) length) 11 (count 0 11)
 abbrev pub asked : ℕ → Place → ℕ → CellEdge
 asked axis p length = edge (axisOf axis) p (levelOf length)
 
--- what the enquiry answers: a refusal, which is its number alone; even; or crossing, with the point's number and its place
+-- what the enquiry answers: a refusal, which is its number alone; even; or crossing, with the point's number, its place and the wet end
 pub data Enquired : Type 0 where
   refused : ℕ → Enquired
   even : Enquired
-  crossing : ℕ → Spot → Enquired
+  crossing : ℕ → Spot → End → Enquired
 
 -- the edge enquiry
 unfoldable pub enquiry : List ℕ → List ℕ → Float → ℕ → Place → ℕ → Enquired
-unfolding checks surveyOf cellsOf cornersOf wetAt isEdge odd carrier numberOf spotOn
+unfolding checks surveyOf cellsOf cornersOf wetAt isEdge odd carrier numberOf spotOn wetEnd
 enquiry tc tk clearance axis p length =
     let s = surveyOf tc tk clearance in
     let a = axisOf axis in
@@ -158,20 +161,20 @@ enquiry tc tk clearance axis p length =
     let number = firstOf (checks tc tk clearance ++ (11, not (ltb axis 3 && isEdge (s .cells) a p l)) ∷ []) in
     let e = carrier s a p l in
     let place = spotOn (cornersOf tk) clearance e in
-    let answer = cond (odd (s .isWet) a p l) (crossing (numberOf s e) place) even in
+    let answer = cond (odd (s .isWet) a p l) (crossing (numberOf s e) place (wetEnd (s .isWet) (edge a p l))) even in
     cond (eqb number 0) answer (refused number)
 
--- document 01's number and values for each case of the enums
+-- document 01's number and values, and document 02's wet end, for each case of the enums
 abbrev pub answered : Answer → Enquired
 answered (Refused n) = refused n
 answered (Found Even) = even
-answered (Found (Crossing n a b c)) = crossing n (record { x = a; y = b; z = c })
+answered (Found (Crossing n a b c end)) = crossing n (record { x = a; y = b; z = c }) end
 
 -- the place of a crossing lies on an edge; a refusal and an even edge have no place
 abbrev pub PlacedOn : CellEdge → Enquired → Type 0
 PlacedOn e (refused n) = Unit {0}
 PlacedOn e even = Unit {0}
-PlacedOn e (crossing n place) = OnEdge e place
+PlacedOn e (crossing n place end) = OnEdge e place
 
 -- "It never leaves the edge": the place of an answer lies on the edge asked about, and on the undivided edge that carries the point.
 pub record StaysOn (s : Survey) (e : CellEdge) (answer : Enquired) : Type 0 where

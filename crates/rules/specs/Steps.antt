@@ -26,6 +26,11 @@ upperSide a = record { across = a; upper = true; right = next a; up = next (next
 abbrev pub lowerSide : Axis → Side
 lowerSide a = record { across = a; upper = false; right = next (next a); up = next a }
 
+-- the upper or the lower side on an axis
+abbrev pub sideBy : Axis → Bool → Side
+sideBy a true = upperSide a
+sideBy a false = lowerSide a
+
 abbrev pub sides : List Side
 sides = upperSide X ∷ lowerSide X ∷ upperSide Y ∷ lowerSide Y ∷ upperSide Z ∷ lowerSide Z ∷ []
 
@@ -36,6 +41,9 @@ pub record Face : Type 0 where
 
 abbrev pub face : Place → ℕ → Face
 face p l = record { low = p; level = l }
+
+abbrev pub sameFace : Face → Face → Bool
+sameFace f g = eqb (f .level) (g .level) && same (f .low) (g .low)
 
 -- the lowest corner of a cell's side
 abbrev pub sideLow : Side → Cell → Place

@@ -1,5 +1,6 @@
-// Document 01 as definitions: what people must believe, in specs/, in the document's order. Here, the types that the calls take and return.
-// Uses base. proofs/ has the surveys that document 01 wants proved.
+// Document 01 and the requests of document 02 as definitions: what people must believe, in specs/, in the documents' order. Here, the types that the calls
+// take and return.
+// Uses base. proofs/ has the surveys that document 01 wants proved, and examples of the requests.
 
 // A corner of the survey, taken up with its place and sounding together.
 pub struct Corner {
@@ -14,10 +15,16 @@ pub struct Leaf {
     pub corners: [Corner; 8],
 }
 
-// An edge as the enquiry sees it: even, or crossing with the point's number and its place in three floats.
+// An end of an edge. Document 02, request 1.
+pub enum End {
+    Lower,
+    Upper,
+}
+
+// An edge as the enquiry sees it: even, or crossing with the point's number, its place in three floats and the wet end.
 pub enum Edge {
     Even,
-    Crossing(u32, f32, f32, f32),
+    Crossing(u32, f32, f32, f32, End),
 }
 
 // What the edge enquiry answers: a refusal's number alone, or the edge.

@@ -8,8 +8,8 @@ use crate::subject::Enquiry;
 /// What drawing returns: the number, and the counts of points and triangles.
 pub type Counts = [u32; 3];
 
-/// The answer of an enquiry: a refusal's number, or the point of an odd edge.
-pub type Answer = Result<Option<(u32, [f32; 3])>, u32>;
+/// The answer of an enquiry: a refusal's number, or the point of an odd edge and whether its upper end is wet.
+pub type Answer = Result<Option<(u32, [f32; 3], bool)>, u32>;
 
 /// A maker of document 01's calls.
 pub trait Way {
@@ -32,7 +32,9 @@ impl Way for Proved {
     fn enquire(survey: &Survey, Enquiry { axis, low, length }: Enquiry) -> Answer {
         match clearance::enquire(&survey.cells, &survey.corners, survey.clearance, axis, low, length) {
             Ok(clearance::Edge::Even) => Ok(None),
-            Ok(clearance::Edge::Crossing { number, place }) => Ok(Some((number, place))),
+            Ok(clearance::Edge::Crossing { number, place, wet_end }) => {
+                Ok(Some((number, place, wet_end == clearance::End::Upper)))
+            }
             Err(refusal) => Err(refusal.number()),
         }
     }
@@ -56,7 +58,9 @@ impl Way for Rust {
     fn enquire(survey: &Survey, Enquiry { axis, low: [x, y, z], length }: Enquiry) -> Answer {
         match drawing::enquire(&survey.cells, &survey.corners, survey.clearance, axis, x, y, z, length)? {
             drawing::Edge::Even => Ok(None),
-            drawing::Edge::Crossing { number, place } => Ok(Some((number, place))),
+            drawing::Edge::Crossing { number, place, wet_end } => {
+                Ok(Some((number, place, wet_end == drawing::End::Upper)))
+            }
         }
     }
 

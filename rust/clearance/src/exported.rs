@@ -10,6 +10,7 @@ pub struct Reply {
     pub x: f32,
     pub y: f32,
     pub z: f32,
+    pub wet_end: u32,
 }
 
 /// What drawing returns.

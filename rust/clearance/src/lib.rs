@@ -1,9 +1,9 @@
 //! Clearance surfaces over a lock survey: the proved library as safe Rust.
 //!
 //! A survey is a cell table (an octree) and a corner table (a sounding at every corner of every cell), both as bytes. At a clearance the surface
-//! between wet and dry corners is drawn as points on the octree's edges and triangles between them. The calls are those of document 01; what they
-//! return, and what they write, is proved equal to its rules for every input. What can't be drawn is refused by one of the eleven
-//! [refusals](Refusal).
+//! between wet and dry corners is drawn as points on the octree's edges and triangles between them. The calls are those of document 01, with what the
+//! requests of document 02 add; what they return, and what they write, is proved equal to the documents' rules for every input. What can't be drawn is
+//! refused by one of the eleven [refusals](Refusal).
 //!
 //! Nothing is kept between calls and nothing is allocated inside them, so any number of threads may call. A call needs less than 512 KiB of stack.
 //!
@@ -18,7 +18,7 @@
 //! A corner is wet if its sounding is at least the clearance.
 //!
 //! ```
-//! use clearance::{draw_to_vec, enquire, Edge, Refusal};
+//! use clearance::{draw_to_vec, enquire, Edge, End, Refusal};
 //!
 //! // The box is one leaf, and only its corner at (0, 0, 0) is wet.
 //! let cells = 0u32.to_le_bytes();
@@ -36,7 +36,7 @@
 //! assert_eq!(mesh.triangles, [[0, 1, 2]]);
 //!
 //! let along_y = enquire(&cells, &corners, 0.0, 1, [0, 0, 0], 1024)?;
-//! assert_eq!(along_y, Edge::Crossing { number: 1, place: [0.0, 512.0, 0.0] });
+//! assert_eq!(along_y, Edge::Crossing { number: 1, place: [0.0, 512.0, 0.0], wet_end: End::Lower });
 //!
 //! corners.truncate(70);
 //! assert_eq!(draw_to_vec(&cells, &corners, 0.0), Err(Refusal::CornerSet));
@@ -50,7 +50,7 @@ mod exported;
 mod outputs;
 mod refusal;
 
-pub use outputs::{Counts, Edge, Mesh, Refused};
+pub use outputs::{Counts, Edge, End, Mesh, Refused};
 pub use refusal::Refusal;
 
 /// Checks a survey by itself.
@@ -73,12 +73,12 @@ pub fn check(cells: &[u8], corners: &[u8]) -> Result<(), Refusal> {
 /// Asks about the edge of some cell that runs along an axis (0 to 2 for x, y, z) from its lower end (x, y, z) over a length.
 ///
 /// ```
-/// use clearance::{enquire, Edge, Refusal};
+/// use clearance::{enquire, Edge, End, Refusal};
 ///
 /// let cells = std::fs::read("../../examples/twin/cells")?;
 /// let corners = std::fs::read("../../examples/twin/corners")?;
 /// let edge = enquire(&cells, &corners, 0.0, 0, [256, 512, 512], 256)?;
-/// assert_eq!(edge, Edge::Crossing { number: 1, place: [384.0, 512.0, 512.0] });
+/// assert_eq!(edge, Edge::Crossing { number: 1, place: [384.0, 512.0, 512.0], wet_end: End::Lower });
 /// assert_eq!(enquire(&cells, &corners, 0.0, 0, [0, 512, 512], 512), Ok(Edge::Even));
 /// assert_eq!(enquire(&cells, &corners, 0.0, 3, [0, 0, 0], 512), Err(Refusal::NoEdge));
 /// # Ok::<(), Box<dyn std::error::Error>>(())
@@ -99,7 +99,12 @@ pub fn enquire(
     passed(reply.number)?;
     Ok(match reply.crossing {
         0 => Edge::Even,
-        _ => Edge::Crossing { number: reply.point, place: [reply.x, reply.y, reply.z] },
+        _ => Edge::Crossing {
+            number: reply.point,
+            place: [reply.x, reply.y, reply.z],
+            wet_end: End::from_number(reply.wet_end)
+                .expect("the library names the wet end of a crossing edge"),
+        },
     })
 }
 

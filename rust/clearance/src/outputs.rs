@@ -5,6 +5,35 @@ use std::fmt;
 
 use crate::Refusal;
 
+/// An end of an edge: the lower or the upper one on the edge's axis.
+#[derive(Clone, Copy, Debug, PartialEq, Eq, Hash)]
+pub enum End {
+    /// The end that an enquiry is made by.
+    Lower = 1,
+    /// The end that lies the edge's length above it.
+    Upper = 2,
+}
+
+impl End {
+    /// The end that a reply names.
+    pub(crate) const fn from_number(number: u32) -> Option<End> {
+        match number {
+            1 => Some(End::Lower),
+            2 => Some(End::Upper),
+            _ => None,
+        }
+    }
+}
+
+impl fmt::Display for End {
+    fn fmt(&self, text: &mut fmt::Formatter<'_>) -> fmt::Result {
+        text.write_str(match self {
+            End::Lower => "lower end",
+            End::Upper => "upper end",
+        })
+    }
+}
+
 /// What the enquiry says of an edge.
 #[derive(Clone, Copy, Debug, PartialEq)]
 pub enum Edge {
@@ -16,6 +45,8 @@ pub enum Edge {
         number: u32,
         /// Where the point is: x, y and z.
         place: [f32; 3],
+        /// Which end of the edge asked about is wet.
+        wet_end: End,
     },
 }
 

@@ -3,33 +3,42 @@
 
 mod number;
 
-use clearance::{Edge, Refusal};
+use clearance::{Edge, End, Refusal};
 use number::number;
-use surveys::{damage, document, generate, plain, Survey};
+use surveys::plain::{self, Plain};
+use surveys::{damage, document, generate, Survey};
 
-/// The answer as numbers, floats by their bits.
-fn numbers(answer: Result<Edge, Refusal>) -> [u32; 5] {
+/// The answer as numbers, floats by their bits: the number returned, and for a crossing 1 + the point's number, its place and the wet end (1 lower, 2 upper).
+type Numbers = [u32; 6];
+
+fn numbers(answer: Result<Edge, Refusal>) -> Numbers {
     match answer {
-        Err(_) => [number(answer), 0, 0, 0, 0],
-        Ok(Edge::Even) => [0; 5],
-        Ok(Edge::Crossing { number, place }) => crossing(number, place),
+        Err(_) => refused(number(answer)),
+        Ok(Edge::Even) => [0; 6],
+        Ok(Edge::Crossing { number, place, wet_end }) => crossing(number, place, wet_end == End::Upper),
     }
 }
 
 /// The same of the independent drawing's answer.
-fn expected_numbers(answer: Result<drawing::Edge, u32>) -> [u32; 5] {
+fn expected_numbers(answer: Result<drawing::Edge, u32>) -> Numbers {
     match answer {
-        Err(number) => [number, 0, 0, 0, 0],
-        Ok(drawing::Edge::Even) => [0; 5],
-        Ok(drawing::Edge::Crossing { number, place }) => crossing(number, place),
+        Err(number) => refused(number),
+        Ok(drawing::Edge::Even) => [0; 6],
+        Ok(drawing::Edge::Crossing { number, place, wet_end }) => {
+            crossing(number, place, wet_end == drawing::End::Upper)
+        }
     }
 }
 
-fn crossing(number: u32, [x, y, z]: [f32; 3]) -> [u32; 5] {
-    [0, 1 + number, x.to_bits(), y.to_bits(), z.to_bits()]
+fn refused(number: u32) -> Numbers {
+    [number, 0, 0, 0, 0, 0]
 }
 
-fn assert_same(survey: &Survey, axis: u32, lower_end: [u32; 3], length: u32, what: &str) -> [u32; 5] {
+fn crossing(number: u32, [x, y, z]: [f32; 3], upper_wet: bool) -> Numbers {
+    [0, 1 + number, x.to_bits(), y.to_bits(), z.to_bits(), 1 + u32::from(upper_wet)]
+}
+
+fn assert_same(survey: &Survey, axis: u32, lower_end: [u32; 3], length: u32, what: &str) -> Numbers {
     let Survey { cells, corners, clearance } = survey;
     let [x, y, z] = lower_end;
     let answer = numbers(clearance::enquire(cells, corners, *clearance, axis, lower_end, length));
@@ -47,27 +56,37 @@ fn places(survey: &Survey) -> impl Iterator<Item = [u32; 3]> + '_ {
 fn the_quarter_place() {
     let survey = document::quarter_place();
     let answer = assert_same(&survey, 0, [0, 0, 0], 256, "dry -1 at 0, wet 3 at 256");
-    assert_eq!(answer, [0, 1, 64f32.to_bits(), 0, 0]);
+    assert_eq!(answer, [0, 1, 64f32.to_bits(), 0, 0, 2]);
     assert_eq!(assert_same(&survey, 3, [0, 0, 0], 256, "axis 3")[0], 11);
 }
 
 #[test]
 fn every_edge_and_many_that_no_cell_has() {
-    let mut met = [0usize; 3];
+    let mut met = [0usize; 4];
+    let mut divided = [0usize; 2];
     for seed in 0..30 {
         let survey = generate::small_survey(seed, 6);
+        let plain = Plain::read(&survey);
         let what = format!("seed {seed}");
-        for place in places(&survey) {
+        for (place, _) in plain::corners(&survey.corners) {
             for (axis, level) in (0..3).flat_map(|axis| (0..=10).map(move |level| (axis, level))) {
-                match assert_same(&survey, axis, place, 1 << level, &what) {
+                match assert_same(&survey, axis, place.map(u32::from), 1 << level, &what) {
                     [11, ..] => met[0] += 1,
                     [0, 0, ..] => met[1] += 1,
-                    _ => met[2] += 1,
+                    [.., wet_end] => {
+                        let edge = plain::Edge::new(axis as usize, place, 1 << level);
+                        met[1 + wet_end as usize] += 1;
+                        divided[wet_end as usize - 1] += usize::from(plain.is_divided(edge));
+                    }
                 }
             }
         }
     }
-    assert!(met.iter().all(|&count| count > 300), "no edge, even, crossing: {met:?}");
+    assert!(met.iter().all(|&count| count > 300), "no edge, even, crossing with either wet end: {met:?}");
+    assert!(
+        divided.iter().all(|&count| count > 30),
+        "divided and crossing, with either wet end: {divided:?}"
+    );
 }
 
 #[test]

@@ -1,6 +1,6 @@
-//! The C header and the Rust library name the same refusals, by number and words.
+//! The C header and the Rust library name the same refusals, by number and words, and the same ends by number.
 
-use clearance::Refusal;
+use clearance::{End, Refusal};
 
 const HEADER: &str = include_str!("../../../include/clearance.h");
 
@@ -26,6 +26,16 @@ fn the_header_has_the_refusals_in_order() {
     let expected: Vec<String> =
         expected.map(|(n, &refusal)| line_of(refusal, if n < last { "," } else { "" })).collect();
     assert_eq!(lines, expected);
+}
+
+#[test]
+fn the_header_has_the_ends() {
+    let expected = format!(
+        "enum clearance_end {{\n    CLEARANCE_LOWER_END = {},\n    CLEARANCE_UPPER_END = {}\n}};",
+        End::Lower as u32,
+        End::Upper as u32
+    );
+    assert!(HEADER.contains(&expected), "{expected}");
 }
 
 #[test]

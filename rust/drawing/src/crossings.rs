@@ -2,6 +2,7 @@
 
 use crate::edges::{EdgeId, EdgeTrees, TreeEdge};
 use crate::survey::{length_at, Corner, Survey};
+use crate::End;
 
 /// The crossing points of a survey at one clearance.
 pub(crate) struct Crossings<'a> {
@@ -45,6 +46,16 @@ impl<'a> Crossings<'a> {
     fn is_odd(&self, edge: EdgeId) -> bool {
         let [lower, upper] = self.trees[edge].ends;
         self.wet[lower] != self.wet[upper]
+    }
+
+    /// The wet end of an odd edge.
+    pub(crate) fn wet_end(&self, edge: EdgeId) -> End {
+        let [_, upper] = self.trees[edge].ends;
+        if self.is_wet(upper) {
+            End::Upper
+        } else {
+            End::Lower
+        }
     }
 
     /// The point of an odd edge: its own if undivided, else that of its odd half, and so on down.

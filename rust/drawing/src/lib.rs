@@ -22,7 +22,16 @@ use edges::EdgeTrees;
 pub use outputs::{Drawing, Drawn};
 use refusal::Refusal;
 
-/// The answer to an edge enquiry: document 01, "Edges, points and places".
+/// An end of an edge.
+#[derive(Clone, Copy, Debug, PartialEq, Eq)]
+pub enum End {
+    /// The one from which the edge runs up its axis.
+    Lower,
+    /// The one to which it runs.
+    Upper,
+}
+
+/// The answer to an edge enquiry: document 01, "Edges, points and places", and document 02, "Which end is wet".
 #[derive(Clone, Copy, Debug, PartialEq)]
 pub enum Edge {
     /// Both ends are wet or both are dry.
@@ -33,6 +42,8 @@ pub enum Edge {
         number: u32,
         /// Where the point is: x, y and z.
         place: [f32; 3],
+        /// The end that is wet.
+        wet_end: End,
     },
 }
 
@@ -61,9 +72,11 @@ pub fn enquire(
         let trees = EdgeTrees::over(&survey);
         let edge = trees.find_by_place(&survey, axis, [x, y, z], length).ok_or(Refusal::NoEdge)?;
         let crossings = Crossings::on(&survey, &trees, clearance);
-        Ok(crossings
-            .point_of(edge)
-            .map_or(Edge::Even, |number| Edge::Crossing { number, place: crossings.place(number) }))
+        Ok(crossings.point_of(edge).map_or(Edge::Even, |number| Edge::Crossing {
+            number,
+            place: crossings.place(number),
+            wet_end: crossings.wet_end(edge),
+        }))
     };
     answer().map_err(Refusal::number)
 }

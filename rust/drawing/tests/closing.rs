@@ -1,8 +1,9 @@
-//! Random surveys are drawn and counted: demand 3, and demand 2 against a second drawing.
+//! Random surveys are drawn and counted: demand 3, and demand 2 against a second drawing. Every edge is asked about, and steps follow from answers.
 
 mod plain_drawing;
 
-use drawing::{draw_to_vec, enquire, Drawing, Edge};
+use drawing::{draw_to_vec, enquire, Drawing, Edge, End};
+use plain_drawing::Face;
 use surveys::closing::{self, Breach};
 use surveys::plain::{self, Plain};
 use surveys::{document, generate, Survey};
@@ -65,6 +66,12 @@ fn random_surveys_are_drawn_as_the_plain_drawing_draws_them() {
     }
 }
 
+fn ask(survey: &Survey, edge: plain::Edge) -> Result<Edge, u32> {
+    let Survey { cells, corners, clearance } = survey;
+    let [x, y, z] = edge.low().map(u32::from);
+    enquire(cells, corners, *clearance, edge.axis as u32, x, y, z, u32::from(edge.length))
+}
+
 #[test]
 fn every_enquiry_is_answered_as_the_plain_edges_say() {
     for seed in 0..60 {
@@ -73,10 +80,7 @@ fn every_enquiry_is_answered_as_the_plain_edges_say() {
         for (place, _) in plain::corners(&survey.corners) {
             for (axis, shift) in (0..3).flat_map(|axis| (0..=10).map(move |shift| (axis, shift))) {
                 let edge = plain::Edge::new(axis, place, 1 << shift);
-                let [x, y, z] = place.map(u32::from);
-                let Survey { cells, corners, clearance } = &survey;
-                let answer = enquire(cells, corners, *clearance, axis as u32, x, y, z, 1 << shift);
-                assert_eq!(answer, plain_answer(&plain, edge), "seed {seed}, {edge:?}");
+                assert_eq!(ask(&survey, edge), plain_answer(&plain, edge), "seed {seed}, {edge:?}");
             }
         }
     }
@@ -89,8 +93,50 @@ fn plain_answer(plain: &Plain, edge: plain::Edge) -> Result<Edge, u32> {
         Ok(Edge::Even)
     } else {
         let number = plain.point(edge);
-        Ok(Edge::Crossing { number: number as u32, place: plain.place(plain.carriers[number]) })
+        let place = plain.place(plain.carriers[number]);
+        let wet_end = if plain.is_wet(edge.low()) { End::Lower } else { End::Upper };
+        Ok(Edge::Crossing { number: number as u32, place, wet_end })
     }
+}
+
+/// The step in a face with two odd edges by the answers for its four edges: on the way round, from the point with the wet end ahead to the one with the wet end
+/// behind. For the leaf above the face the way goes round the other way.
+fn step_by_answers(face: &Face, answer: impl Fn(plain::Edge) -> Edge) -> (usize, usize) {
+    let ahead = [End::Upper, End::Upper, End::Lower, End::Lower];
+    let (mut into_wet, mut out_of_wet) = (None, None);
+    for (edge, ahead) in face.edges_round().into_iter().zip(ahead) {
+        match answer(edge) {
+            Edge::Even => {}
+            Edge::Crossing { number, wet_end, .. } if wet_end == ahead => into_wet = Some(number as usize),
+            Edge::Crossing { number, .. } => out_of_wet = Some(number as usize),
+        }
+    }
+    let (into_wet, out_of_wet) = into_wet.zip(out_of_wet).expect("two odd edges");
+    if face.outward > 0 {
+        (into_wet, out_of_wet)
+    } else {
+        (out_of_wet, into_wet)
+    }
+}
+
+#[test]
+fn the_step_in_a_face_with_two_odd_edges_follows_from_four_answers() {
+    let mut met = [[0usize; 2]; 3];
+    let mut divided = 0;
+    for seed in 0..60 {
+        let survey = generate::small_survey(seed, 3);
+        let plain = Plain::read(&survey);
+        let answer =
+            |edge: plain::Edge| ask(&survey, edge).expect("an edge of a small face is an edge of a cell");
+        for (face, step) in plain_drawing::single_steps(&plain) {
+            assert_eq!(step_by_answers(&face, answer), step, "seed {seed}");
+            met[face.axis][usize::from(face.outward > 0)] += 1;
+            let odd_and_divided = |&edge: &plain::Edge| plain.is_odd(edge) && plain.is_divided(edge);
+            divided += usize::from(face.edges_round().iter().any(odd_and_divided));
+        }
+    }
+    assert!(met.as_flattened().iter().all(|&count| count > 100), "by axis, lower and upper side: {met:?}");
+    assert!(divided > 100, "with a divided odd edge: {divided}");
 }
 
 /// What the closing check says of the twin survey's drawing after a change to it.

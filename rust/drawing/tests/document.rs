@@ -1,6 +1,6 @@
 //! The surveys of document 01, "Surveys to try", and the small ones beside them.
 
-use drawing::{check, draw, draw_to_vec, enquire, Drawn, Edge};
+use drawing::{check, draw, draw_to_vec, enquire, Drawn, Edge, End};
 use surveys::lent::{self, bits};
 use surveys::{closing, document, Survey};
 
@@ -92,7 +92,7 @@ fn a_survey_without_points_needs_no_slices() {
 
 #[test]
 fn dry_at_0_and_wet_3_at_256_cross_at_64() {
-    let crossing = Ok(Edge::Crossing { number: 0, place: [64.0, 0.0, 0.0] });
+    let crossing = Ok(Edge::Crossing { number: 0, place: [64.0, 0.0, 0.0], wet_end: End::Upper });
     assert_eq!(ask(&document::quarter_place(), 0, [0, 0, 0], 256), crossing);
 }
 
@@ -100,7 +100,7 @@ fn dry_at_0_and_wet_3_at_256_cross_at_64() {
 fn an_odd_divided_edge_has_the_point_of_its_odd_half() {
     let wet_origin = document::wet_at(&[0, 1], &[[0, 0, 0]], 1.0);
     for length in [256, 512, 1024] {
-        let crossing = Ok(Edge::Crossing { number: 1, place: [0.0, 128.0, 0.0] });
+        let crossing = Ok(Edge::Crossing { number: 1, place: [0.0, 128.0, 0.0], wet_end: End::Lower });
         assert_eq!(ask(&wet_origin, 1, [0, 0, 0], length), crossing, "length {length}");
     }
     assert_eq!(ask(&wet_origin, 1, [0, 256, 0], 256), Ok(Edge::Even));

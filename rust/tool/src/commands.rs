@@ -88,7 +88,8 @@ const COMMANDS: [Command; 8] = [
         arguments: "DIR AXIS X Y Z LENGTH",
         summary: "ask about one edge",
         help: "Asks about the edge along AXIS (x, y, z or 0, 1, 2) from the lower end (X, Y, Z) over LENGTH. Prints 'even',\n\
-               or 'crossing', the point's number and its x, y and z. A missing file is an error.",
+               or 'crossing', the point's number, its x, y and z, and 'lower end wet' or 'upper end wet'. A missing file is\n\
+               an error.",
         takes: || [vec![path(DIRECTORY), axis(AXIS)], ["X", "Y", "Z", "LENGTH"].map(number).to_vec()].concat(),
         run: enquire,
     },
@@ -241,7 +242,9 @@ fn enquire(arguments: &ArgMatches) -> Result<Printed, Failure> {
     let edge = clearance::enquire(&survey.cells, &survey.corners, survey.clearance, axis, [x, y, z], length)?;
     Ok(match edge {
         Edge::Even => String::from("even\n"),
-        Edge::Crossing { number, place: [x, y, z] } => format!("crossing {number} {x} {y} {z}\n"),
+        Edge::Crossing { number, place: [x, y, z], wet_end } => {
+            format!("crossing {number} {x} {y} {z} {wet_end} wet\n")
+        }
     }
     .into())
 }

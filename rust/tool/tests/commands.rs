@@ -117,12 +117,12 @@ fn a_clearance_of_another_length_is_refused() {
 #[test]
 fn enquire_answers_for_axes_by_letter_and_number() {
     let cases = [
-        ("x", ["256", "512", "512", "256"], "crossing 1 384 512 512\n"),
-        ("0", ["256", "512", "512", "256"], "crossing 1 384 512 512\n"),
-        ("y", ["256", "256", "512", "256"], "crossing 2 256 384 512\n"),
-        ("1", ["256", "256", "512", "256"], "crossing 2 256 384 512\n"),
-        ("z", ["256", "512", "256", "256"], "crossing 3 256 512 384\n"),
-        ("2", ["256", "512", "256", "256"], "crossing 3 256 512 384\n"),
+        ("x", ["256", "512", "512", "256"], "crossing 1 384 512 512 lower end wet\n"),
+        ("0", ["256", "512", "512", "256"], "crossing 1 384 512 512 lower end wet\n"),
+        ("y", ["256", "256", "512", "256"], "crossing 2 256 384 512 upper end wet\n"),
+        ("1", ["256", "256", "512", "256"], "crossing 2 256 384 512 upper end wet\n"),
+        ("z", ["256", "512", "256", "256"], "crossing 3 256 512 384 upper end wet\n"),
+        ("2", ["256", "512", "256", "256"], "crossing 3 256 512 384 upper end wet\n"),
         ("x", ["0", "512", "512", "512"], "even\n"),
     ];
     for (axis, edge, answer) in cases {

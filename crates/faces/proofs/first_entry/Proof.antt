@@ -3,7 +3,7 @@ use mathlib.Core.Path.{refl, _∙_}
 use borrow.Author.Needs.{needs}
 use Rattle.digits.specs.Digits.{digitOf}
 use Rattle.faces.specs.Patterns.{stepFrom, firstEntry}
-use Rattle.digits.proofs.Alike.{alike}
+use Rattle.base.proofs.Alike.{alike}
 use Rattle.faces.proofs.first_entry.Statement.{statement}
 use Rattle.faces.proofs.first_entry.Tie as tie
 

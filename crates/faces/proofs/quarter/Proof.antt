@@ -6,7 +6,7 @@ use borrow.Author.Needs.{needs}
 use Rattle.base.proofs.Lists.{in-get}
 use Rattle.digits.specs.Digits.{digitOf}
 use Rattle.faces.specs.Faces.{quarters}
-use Rattle.digits.proofs.Alike.{alike}
+use Rattle.base.proofs.Alike.{alike}
 use Rattle.faces.proofs.Small.{quarter-few}
 use Rattle.faces.proofs.quarter.Statement.{statement}
 use Rattle.faces.proofs.quarter.Tie as tie

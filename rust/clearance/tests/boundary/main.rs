@@ -89,7 +89,7 @@ impl Lent<'_> {
 
     fn is_crossing(&self, drawn: &[f32], axis: u32, lower_end: [u32; 3], length: u32) -> bool {
         match clearance::enquire(&self.cells, &self.corners, self.clearance, axis, lower_end, length) {
-            Ok(Edge::Crossing { number, place }) => {
+            Ok(Edge::Crossing { number, place, .. }) => {
                 assert_eq!(bits(&place), bits(&drawn[3 * number as usize..][..3]), "{}", self.what);
                 true
             }

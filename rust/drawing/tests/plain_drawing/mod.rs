@@ -7,11 +7,11 @@ use surveys::plain::{Edge, Plain};
 use surveys::survey::Cube;
 
 /// A face of a leaf, as another leaf or the same one has it on a side.
-struct Face {
+pub struct Face {
     /// The axis that the face stands across.
-    axis: usize,
+    pub axis: usize,
     /// +1 if the outside of the leaf is further up on that axis, −1 if further down.
-    outward: i32,
+    pub outward: i32,
     /// The lowest corner.
     low: [u16; 3],
     size: u16,
@@ -72,6 +72,25 @@ fn small_faces(plain: &Plain, leaf: Cube) -> Vec<Face> {
             }
         })
         .collect()
+}
+
+/// The small faces with two odd edges that each leaf has, with the step in each.
+pub fn single_steps(plain: &Plain) -> Vec<(Face, (usize, usize))> {
+    let faces = plain.leaves.iter().flat_map(|&leaf| small_faces(plain, leaf));
+    faces
+        .filter_map(|face| match face_steps(plain, &face)[..] {
+            [step] => Some((face, step)),
+            _ => None,
+        })
+        .collect()
+}
+
+impl Face {
+    /// The four edges in their order round the face, from the lowest corner on and along the axis after its own first.
+    pub fn edges_round(&self) -> [Edge; 4] {
+        let [first, first_raised, second, second_raised] = face_edges(self);
+        [first, second_raised, first_raised, second]
+    }
 }
 
 fn face_of(leaf: Cube, axis: usize, outward: i32) -> Face {

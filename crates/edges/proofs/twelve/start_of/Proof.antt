@@ -4,7 +4,7 @@ use native.Mathlib.Omega.{arith}
 use lib.ListN.{getD}
 use borrow.Author.Needs.{needs}
 use Rattle.digits.specs.Digits.{digitOf}
-use Rattle.digits.proofs.Alike.{alike}
+use Rattle.base.proofs.Alike.{alike}
 use Rattle.edges.specs.Tables.{starts}
 use Rattle.edges.proofs.CellEdges.{start-below}
 use Rattle.edges.proofs.twelve.start_of.Statement.{statement}

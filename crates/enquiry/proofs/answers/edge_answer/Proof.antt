@@ -17,7 +17,8 @@ use Rattle.edges.specs.Tables.{placeAt, OddEdge, CarrierSlot}
 use Rattle.edges.proofs.Descent.{slot-numbers}
 use Rattle.edges.proofs.Numbering.{below-le}
 use Rattle.edges.proofs.Readings.{corners, no-refusal, odd-read}
-use Rattle.enquiry.proofs.Enquiring.{placed, placed-short, placed-key, answer-none, answer-even, answer-crossing}
+use Rattle.enquiry.proofs.Enquiring.{placed, placed-short, placed-key, answer-none, answer-even, answer-crossing, wet-read}
+use borrow.Author.Needs.{needs}
 use Rattle.enquiry.proofs.answers.edge_answer.Statement.{statement}
 use Rattle.enquiry.proofs.answers.edge_answer.Tie as tie
 
@@ -93,13 +94,13 @@ upper-end-requires c κs =
       (s .pre .1 .1 .0, (s .pre .1 .1 .1, inside c, is-edge c)),
     )
 
-shared-slice-read-if2 : tie.Need-shared-slice-read-if2
-shared-slice-read-if2 c =
+shared-slice-read-lower : tie.Need-shared-slice-read-lower
+shared-slice-read-lower c =
     let s = start (found (c .before)) in
     omega (arith, s .pre .1 .0 .size, corners (s .args .cells .now) (s .args .corners .now) (s .args .clearance) (s .pre .0) .few)
 
-shared-slice-read-if2-2 : tie.Need-shared-slice-read-if2-2
-shared-slice-read-if2-2 c =
+shared-slice-read-upper : tie.Need-shared-slice-read-upper
+shared-slice-read-upper c =
     let u = c .before .before in
     let s = start (found u) in
     omega (
@@ -150,9 +151,13 @@ slot-point-requires c κs =
     let carried = c .before .carrier-slot .ensures in
     (s .pre .0, (s .pre .1 .1 .0, (carried .inside, carried .crossed)))
 
+wet-end-requires : tie.Need-wet-end-requires
+wet-end-requires c κs = search needs
+
 returns-3 : tie.Need-returns-3
 returns-3 c =
-    let counted = c .before in
+    let pointed = c .before in
+    let counted = pointed .before in
     let slot = counted .before .carrier-slot in
     let odd-found = counted .before .before in
     let s = entry odd-found in
@@ -165,8 +170,9 @@ returns-3 c =
     let at = here (ended odd-found .before) p w e in
     let carried = subst (λ q. CarrierSlot (surveyOf tc tk x) a q l (slot .result)) (at .1) (slot .ensures) in
     answer-crossing tc tk x a p l (at .0) (ap (λ q. odd (wetAt (cornersOf tk) x) a q l) (sym (at .1)) ∙ is-odd odd-found) (counted .count-crossed .result)
-    (counted .count-crossed .ensures ∙ slot-numbers tc tk x (s .pre .0) a p l (slot .result) carried) (asSpot (c .slot-point .result))
-    (c .slot-point .ensures ∙ ap (spotOn (cornersOf tk) x) (carried .carries))
+    (counted .count-crossed .ensures ∙ slot-numbers tc tk x (s .pre .0) a p l (slot .result) carried) (asSpot (pointed .slot-point .result))
+    (pointed .slot-point .ensures ∙ ap (spotOn (cornersOf tk) x) (carried .carries)) (c .wet-end .result)
+    (c .wet-end .ensures ∙ wet-read tk x (s .args .wets .now) (s .pre .1 .0) a p l _ _ (ended odd-found .upper-end .ensures) (at .1))
 
 pub edge-answer-spec : {M : Type 1} → statement M
 edge-answer-spec =
@@ -175,11 +181,12 @@ edge-answer-spec =
     edge-record-requires
     returns
     upper-end-requires
-    shared-slice-read-if2
-    shared-slice-read-if2-2
+    shared-slice-read-lower
+    shared-slice-read-upper
     returns-2
     carrier-slot-requires
     count-crossed-requires
     cast-n
     slot-point-requires
+    wet-end-requires
     returns-3)
