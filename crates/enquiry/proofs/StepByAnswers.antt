@@ -55,7 +55,7 @@ stepsBy cut w0 w1 w2 w3 n = map (λ t. (n (t .0), n (t .1))) (steps cut w0 w1 w2
 abbrev OneStep : Bool → List Step → FourAnswers → Type 0
 OneStep upper ss r = (ss ≡ stepBy upper r) × (length ss ≡ 1)
 
--- What the leaf below the face sees, and what the leaf above it does, which counts corners and edges the other way round.
+-- The steps for the leaf below the face, and for the leaf above it, which counts corners and edges the other way round.
 abbrev Seen : Bool → Bool → Bool → Bool → Bool → Type 0
 Seen cut w0 w1 w2 w3 = (n : ℕ → ℕ) (q : ℕ → Spot) →
     OneStep true (stepsBy cut w0 w1 w2 w3 n) (answersBy w0 w1 w2 w3 n q) ×

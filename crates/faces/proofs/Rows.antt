@@ -12,18 +12,14 @@ use Rattle.base.proofs.Tests.{and→}
 use Rattle.base.proofs.Lists.{all→in, count-in}
 use Rattle.rules.specs.Survey.{Cell, cell, size, cellCorners}
 use Rattle.rules.specs.Edges.{edge}
-use Rattle.rules.specs.Steps.{Side, upperSide, lowerSide, Face, faceCorner, faceEdge}
+use Rattle.rules.specs.Steps.{Side, sideBy, Face, faceCorner, faceEdge}
 use Rattle.across.specs.Across.{sideNumber}
 use Rattle.crossings.specs.Crossings.{edgeAt}
 use Rattle.faces.specs.Faces.{rowSide, rowUpper, faceOn, cornerOn, edgeOn, rowCorner, rowEdge}
 use Rattle.base.proofs.Alike.{Alike, alike}
 
-abbrev sideOn : Axis → Bool → Side
-sideOn a true = upperSide a
-sideOn a false = lowerSide a
-
 -- what holds of all sides of the rules
-pub of-sides : (P : Side → Type 0) → ((a : Axis) (u : Bool) → P (sideOn a u)) → (i : ℕ) → P (sideNumber i)
+pub of-sides : (P : Side → Type 0) → ((a : Axis) (u : Bool) → P (sideBy a u)) → (i : ℕ) → P (sideNumber i)
 of-sides P f zero = f X true
 of-sides P f (suc zero) = f X false
 of-sides P f (suc (suc zero)) = f Y true
@@ -48,7 +44,7 @@ record Row (side : Side) (upper : Bool) (c : Cell) : Type 0 where
   children : Alike 4 (λ j. faceOn side upper (at c (cornerAt side upper c j)) .low) (faceCorner side (faceOn side upper (at c (faceOn side upper c .low))))
   turned : (p : Place) → move (side .right) (size c) (move (side .up) (size c) p) ≡ move (side .up) (size c) (move (side .right) (size c) p)
 
-rows : (a : Axis) (u v : Bool) (c : Cell) → Row (sideOn a u) v c
+rows : (a : Axis) (u v : Bool) (c : Cell) → Row (sideBy a u) v c
 unfolding cornerOn edgeOn
 rows X true true c = record { few = tt; corners = refl; edges = refl; children = refl; turned = λ p. refl }
 rows X true false c = record { few = tt; corners = refl; edges = refl; children = refl; turned = λ p. refl }

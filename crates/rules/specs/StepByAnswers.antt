@@ -20,8 +20,8 @@ use Rattle.rules.specs.declared.End.the-variants.{Lower, Upper}
 
 -- ---- the four edges and the answers for them
 
--- Edge i, 0 to 3, of a face across an axis, by the face alone: round it, counter-clockwise as a leaf sees it that has the face on its upper side. A leaf that
--- has the face on its lower side sees them in the opposite order.
+-- Edge i, 0 to 3, of a face across an axis, by the face alone: round it, counter-clockwise seen from outside a leaf that has the face on its upper side.
+-- Seen from outside a leaf that has it on its lower side they go round in the opposite order.
 abbrev pub edgeRound : Axis → Face → ℕ → CellEdge
 edgeRound a f i = faceEdge (upperSide a) f i
 
@@ -76,9 +76,9 @@ outOfWet r = pointIfWet Lower (r .first) ++ pointIfWet Lower (r .second) ++ poin
 abbrev pub between : List ℕ → List ℕ → List Step
 between ps qs = collect (λ p. map (λ q. (p, q)) qs) ps
 
--- The step by the four answers; with two odd edges there is one point into the wet and one out of it. A leaf that has the face on its upper side goes round
--- this way, and with the wet corners to its right the step leads from the former to the latter. A leaf that has the face on its lower side goes round the other
--- way, and sees the step turned.
+-- The step by the four answers; with two odd edges there is one point into the wet and one out of it. For a leaf that has the face on its upper side the way
+-- round is counter-clockwise, and with wet corners to its right the step leads from the former point to the latter. For a leaf that has the face on its lower
+-- side it is turned round.
 abbrev pub stepBy : Bool → FourAnswers → List Step
 stepBy upper r =
     let there = between (intoWet r) (outOfWet r) in
@@ -95,7 +95,7 @@ hasSmallFace tc tk clearance a upper f =
     let side = sideBy a upper in
     accepted tc tk clearance && any (λ c. not (c .split) && any (sameFace f) (smallFaces cells side (sideLow side c) (c .level))) cells
 
--- "On a small face with two odd edges the step and its direction [...] follow from the four edge answers alone": there is one, and it is that of the function.
+-- "On a small face with two odd edges the step and its direction [...] follow from the four edge answers alone": there is one step, and it is `stepBy`'s.
 unfoldable pub Follows : Type 0
 unfolding surveyOf oddEdges faceSteps faceAnswers hasSmallFace
 Follows =

@@ -1,5 +1,5 @@
-// Document 01 and the requests of document 02 as definitions: what people must believe, in specs/, in the documents' order. Here, the types that the calls
-// take and return.
+// Document 01, and the requests of document 02 that are in, as definitions: what people must believe, in specs/, each file headed by its section. Here, the
+// types that the calls take and return.
 // Uses base. proofs/ has the surveys that document 01 wants proved, and examples of the requests.
 
 // A corner of the survey, taken up with its place and sounding together.

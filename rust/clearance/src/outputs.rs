@@ -8,7 +8,7 @@ use crate::Refusal;
 /// An end of an edge: the lower or the upper one on the edge's axis.
 #[derive(Clone, Copy, Debug, PartialEq, Eq, Hash)]
 pub enum End {
-    /// The end that an enquiry is made by.
+    /// The end that an enquiry gives.
     Lower = 1,
     /// The end that lies the edge's length above it.
     Upper = 2,
