@@ -51,7 +51,7 @@ oddBy w0 w1 w2 w3 =
 abbrev stepsBy : Bool → Bool → Bool → Bool → Bool → (ℕ → ℕ) → List Step
 stepsBy cut w0 w1 w2 w3 n = map (λ t. (n (t .0), n (t .1))) (steps cut w0 w1 w2 w3)
 
--- these steps are one, and that of the function
+-- there is one step, and it is that of the function
 abbrev OneStep : Bool → List Step → FourAnswers → Type 0
 OneStep upper ss r = (ss ≡ stepBy upper r) × (length ss ≡ 1)
 

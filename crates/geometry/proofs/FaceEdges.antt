@@ -48,10 +48,11 @@ module _ (cells : List Cell) where
       subst (λ f. IsEdge (faceEdge (upperSide a) f i)) at
       (subst IsEdge (sym (edge-below a k n u v i)) (square-edges a k n u v flank i))
 
-  small-by : (a : Axis) (b : Bool) (c : Cell) → In c cells → (f : Face) → T (isSmallFace cells (sideBy a b) c f) → (i : ℕ) →
+  -- the edges of a face that document 01's sentence names
+  named-edge : (a : Axis) (b : Bool) (c : Cell) → In c cells → (f : Face) → T (isSmallFace cells (sideBy a b) c f) → (i : ℕ) →
       IsEdge (faceEdge (upperSide a) f i)
   unfolding isSmallFace
-  small-by a b c j f t i = go (any (splitBeyond (sideBy a b) c) cells) t
+  named-edge a b c j f t i = go (any (splitBeyond (sideBy a b) c) cells) t
     where
       inner : Cell → Bool
       inner e = splitBeyond (sideBy a b) c e && any (isSideInside (sideBy a b) c f e) cells
@@ -68,8 +69,8 @@ module _ (cells : List Cell) where
           let is = side-inside→ (sideBy a b) c f e d w .3 in
           side-edge a (not b) d k f (subst (λ side. T (sameFace f (sideOf side d))) (turned b) is) i
 
--- of each small face on a side of a cell of a lawful survey
+-- the edges of each small face on a side of a cell of a lawful survey
 pub small-edge : (s : Survey) → Lawful s → (a : Axis) (b : Bool) (c : Cell) → In c (s .cells) →
     (f : Face) → T (any (sameFace f) (smallFaces (s .cells) (sideBy a b) (sideLow (sideBy a b) c) (c .level))) →
     (i : ℕ) → IsEdge (s .cells) (faceEdge (upperSide a) f i)
-small-edge s law a b c j f t i = small-by (s .cells) a b c j f (subst T (named-by (s .cells) (law .octree) a b c f) t) i
+small-edge s law a b c j f t i = named-edge (s .cells) a b c j f (subst T (named-by (s .cells) (law .octree) a b c f) t) i

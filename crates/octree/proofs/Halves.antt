@@ -150,7 +150,8 @@ module _ (s : Survey) (tree : Octree (s .cells)) where
       go true false f g h = g tt tt
       go false o f g h = h tt
 
-  -- and it has the same end wet: what the enquiry tells of the edge asked about is true of the edge that carries the point
+-- The carrier of an odd edge has the same end wet: what the enquiry tells of the edge asked about is true of the edge that carries the point.
+module _ (s : Survey) where
   pub carrier-wet : (a : Axis) (p : Place) (l : ℕ) → T (odd (s .isWet) a p l) → wetEnd (s .isWet) (carrier s a p l) ≡ wetEnd (s .isWet) (edge a p l)
   unfolding carrier
   carrier-wet a p zero o = refl

@@ -7,13 +7,13 @@ use mathlib.Core.List.{List, [], _∷_, _++_, map}
 use lib.Dec.{eqb, eqb→eq, T}
 use lib.ListN.{length, replicate}
 use lib.Ieee.{Float, binary32, ofBits, toBits}
-use Rattle.base.specs.Lists.{any, all, keep, collect}
+use Rattle.base.specs.Lists.{any, all, keep, collect, bit}
 use Rattle.base.specs.Grid.{Place, origin, Axis, X, axes, same}
 use Rattle.rules.specs.Survey.{cellsOf}
 use Rattle.rules.specs.Edges.{onSide}
 use Rattle.rules.specs.Steps.{sideBy, Face, Step, steps, saddleCut, faceSteps}
 use Rattle.rules.specs.Outputs.{surveyRefusal, surveyOf, Drawing, draw, Enquired, refused, even, crossing, enquiry, coordinates}
-use Rattle.rules.specs.StepByAnswers.{faceAnswers, stepBy}
+use Rattle.rules.specs.StepByAnswers.{oddEdges, faceAnswers, stepBy, hasSmallFace}
 use Rattle.rules.specs.declared.End.{End}
 use Rattle.rules.specs.declared.End.the-variants.{Lower, Upper}
 
@@ -85,8 +85,9 @@ split = record { cells = cellTable (1 ∷ leaves 8); corners = grid (0 ∷ 512 �
 
 -- ---- calls and their answers
 
--- a check by itself; a drawing with slices of two lengths; an enquiry by axis, lower end and length; the steps of a face by its four wet marks; the steps
--- in a small face by the rules, with their count, and then by the answers for its four edges
+-- a check by itself; a drawing with slices of two lengths; an enquiry by axis, lower end and length; the steps of a face by its four wet marks; of
+-- a face on a side, whether it is a small face of some leaf, how many edges are odd, the steps by the rules, with their count, and the step by the answers
+-- for its four edges
 pub data Call : Type 0 where
   checking : Call
   drawing : ℕ → ℕ → Call
@@ -150,14 +151,15 @@ abbrev pub stepNumbers : List Step → List ℕ
 stepNumbers ss = collect (λ t. t .0 ∷ t .1 ∷ []) ss
 
 unfoldable pub outcome : Call → Float → List ℕ → List ℕ → List ℕ
-unfolding surveyRefusal draw enquiry ofBits toBits saddleCut surveyOf faceSteps faceAnswers
+unfolding surveyRefusal draw enquiry ofBits toBits saddleCut surveyOf faceSteps hasSmallFace oddEdges faceAnswers
 outcome checking clearance tc tk = surveyRefusal tc tk ∷ []
 outcome (drawing n m) clearance tc tk = drawingNumbers (draw tc tk clearance (replicate n (ofBits binary32 oldFloat)) (replicate m oldNumber))
 outcome (asking a p l) clearance tc tk = answerNumbers (enquiry tc tk clearance a p l)
 outcome (stepping a b c d) clearance tc tk = stepNumbers (steps (saddleCut X origin 0) a b c d)
 outcome (seeing a upper f) clearance tc tk =
-    let ss = faceSteps (surveyOf tc tk clearance) (sideBy a upper) f in
-    length ss ∷ stepNumbers ss ++ stepNumbers (stepBy upper (faceAnswers tc tk clearance a f))
+    let s = surveyOf tc tk clearance in
+    let ss = faceSteps s (sideBy a upper) f in
+    bit (hasSmallFace tc tk clearance a upper f) ∷ oddEdges s a f ∷ length ss ∷ stepNumbers ss ++ stepNumbers (stepBy upper (faceAnswers tc tk clearance a f))
 
 unfoldable pub outcomeOf : Example → List ℕ
 unfolding outcome ofBits

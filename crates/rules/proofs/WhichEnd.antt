@@ -19,11 +19,12 @@ ends =
     example twins (wetAtOnly (place 512 0 0 ∷ [])) (asking 0 (place 0 0 0) 512) (0 ∷ 0 ∷ f384 ∷ 0 ∷ 0 ∷ 2 ∷ []) ∷
     example twins (wetAtOnly (place 0 0 0 ∷ place 256 0 0 ∷ [])) (asking 0 (place 0 0 0) 512) (0 ∷ 0 ∷ f384 ∷ 0 ∷ 0 ∷ 1 ∷ []) ∷
     -- a face with one wet corner on the leaf's upper side on x, one on its lower side; a face with two wet corners on its lower side on z
-    example leaf edgeWet (seeing X true (face (place 1024 0 0) 10)) (1 ∷ 3 ∷ 1 ∷ 3 ∷ 1 ∷ []) ∷
-    example leaf edgeWet (seeing X false (face (place 0 0 0) 10)) (1 ∷ 0 ∷ 2 ∷ 0 ∷ 2 ∷ []) ∷
-    example leaf edgeWet (seeing Z false (face (place 0 0 0) 10)) (1 ∷ 1 ∷ 0 ∷ 1 ∷ 0 ∷ []) ∷
-    -- a face with a divided odd edge, on the upper side of record 2 on y
-    example twins (wetAtOnly (place 512 512 512 ∷ [])) (seeing Y true (face (place 512 512 0) 9)) (1 ∷ 4 ∷ 1 ∷ 4 ∷ 1 ∷ []) ∷ []
+    example leaf edgeWet (seeing X true (face (place 1024 0 0) 10)) (1 ∷ 2 ∷ 1 ∷ 3 ∷ 1 ∷ 3 ∷ 1 ∷ []) ∷
+    example leaf edgeWet (seeing X false (face (place 0 0 0) 10)) (1 ∷ 2 ∷ 1 ∷ 0 ∷ 2 ∷ 0 ∷ 2 ∷ []) ∷
+    example leaf edgeWet (seeing Z false (face (place 0 0 0) 10)) (1 ∷ 2 ∷ 1 ∷ 1 ∷ 0 ∷ 1 ∷ 0 ∷ []) ∷
+    -- a face with a divided odd edge, on the upper side of record 2 on y; its lower side on x, which is no small face, since record 1 across is split
+    example twins (wetAtOnly (place 512 512 512 ∷ [])) (seeing Y true (face (place 512 512 0) 9)) (1 ∷ 2 ∷ 1 ∷ 4 ∷ 1 ∷ 4 ∷ 1 ∷ []) ∷
+    example twins (wetAtOnly (place 512 512 512 ∷ [])) (seeing X false (face (place 512 0 0) 9)) (0 ∷ 2 ∷ 1 ∷ 2 ∷ 4 ∷ 2 ∷ 4 ∷ []) ∷ []
 
 pub ends-right : Each Right ends
 unfolding right ends twins

@@ -42,6 +42,7 @@ pub record Face : Type 0 where
 abbrev pub face : Place → ℕ → Face
 face p l = record { low = p; level = l }
 
+-- faces with the same lowest corner and level are one face
 abbrev pub sameFace : Face → Face → Bool
 sameFace f g = eqb (f .level) (g .level) && same (f .low) (g .low)
 
