@@ -1,28 +1,25 @@
--- A point never leaves its edge: t lies from 0 to 1, length × t from 0 to the length, and the sum or the difference between the two ends.
--- Here for one edge, given what an accepted survey says of its ends.
+-- A point never leaves its edge: t lies from 0 to 1, length × t from 0 to the length, and the sum or the difference between the two ends. Where the dry
+-- sounding equals the clearance t is a zero, and the point is the dry end. Here for one edge, given what an accepted survey says of its ends.
 -- Assumes nothing.
-use Prim.Native.Nat.{ℕ, _+_, _^_, _≤_, _<_}
-use mathlib.Core.Path.{_≡_, refl, sym, ap, _∙_, subst}
-use mathlib.Core.Logic.{_⊎_, inl, inr}
-use mathlib.Core.Bool.{Bool, true, false, not, Bool·beq, cond}
-use mathlib.Core.List.{List}
+use Prim.Native.Nat.{ℕ, _+_, _*_, _^_, _≤_, _<_}
+use mathlib.Core.Path.{_≡_, sym, _∙_, subst}
+use mathlib.Core.Bool.{true, false}
 use native.Mathlib.Omega.{arith}
 use lib.Dec.{T, lit≤}
 use lib.IntN.{pos}
-use lib.Pow.{pow-pos}
-use lib.Ieee.{Float, inf, fin, binary32, le, ofInt, fits}
+use lib.Ieee.{Float, inf, fin, binary32, eq, le, ofInt, fits}
 use lib.Ieee.Scale.{finite}
 use Rattle.base.specs.Grid.{Place, Axis, X, Y, Z, next, along}
 use Rattle.base.proofs.Tests.{and→, true→}
 use Rattle.base.proofs.Places.{along-put}
-use Rattle.rounding.proofs.Order.{Between, le→Le, not-le→Lt, lt-le, Le, Lt}
-use Rattle.rounding.proofs.Rounds.{AtMost, whole-is, between-wider}
-use Rattle.rounding.proofs.Parts.{part, mul-at-most, add-between, sub-between}
-use Rattle.rules.specs.Survey.{placeOf, cornerAt, wet, wetAt}
-use Rattle.rules.specs.Edges.{CellEdge, edge, upperEnd, odd, float, fraction, moving, Spot, spot, spotOn, coordinate, OnEdge}
+use Rattle.rounding.proofs.Order.{Between, Le, Lt, le→Le, lt→Lt, not-lt→Le, eq→Level, le-lt}
+use Rattle.rounding.proofs.Rounds.{Bare, AtMost, whole-is, between-wider}
+use Rattle.rounding.proofs.Parts.{Within, part, part-none, mul-at-most, Moved, add-moved, sub-moved}
+use Rattle.rules.specs.Survey.{placeOf, wet}
+use Rattle.rules.specs.Edges.{edge, float, fraction, moving, Spot, spot, coordinate, OnEdge}
 use Rattle.rules.specs.Outputs.{inRange}
 use Rattle.rules.specs.declared.Corner.{Corner}
-use Rattle.places.proofs.Reckoned.{way, moving-up, moving-down, corner-place}
+use Rattle.places.proofs.Reckoned.{way, moving-up, moving-down}
 
 -- ---- t lies from 0 to 1
 
@@ -37,13 +34,23 @@ pub record Sounding (v : Float) : Type 0 where
   pub in-range : T (inRange v)
   pub holds : T (fits binary32 v)
 
--- the soundings of the ends of an odd edge in an accepted survey
-pub record Ends (clearance dry far : Float) : Type 0 where
+-- the ends of an odd edge in an accepted survey
+pub record Ends (clearance : Float) (dry far : Corner) : Type 0 where
   pub clear : T (inRange clearance)
-  pub dry-end : Sounding dry
-  pub wet-end : Sounding far
-  pub is-dry : le clearance dry ≡ false
-  pub is-wet : le clearance far ≡ true
+  pub dry-end : Sounding (dry .sounding)
+  pub wet-end : Sounding (far .sounding)
+  pub is-dry : wet clearance dry ≡ false
+  pub is-wet : wet clearance far ≡ true
+
+-- what wetness says of the sounding; nothing here looks at its definition but these two
+module _ (clearance : Float) (c : Corner) (p : T (finite clearance)) (q : T (finite (c .sounding))) where
+  dry-below : wet clearance c ≡ false → Le (c .sounding) clearance
+  unfolding wet
+  dry-below = not-lt→Le clearance (c .sounding) p q
+
+  wet-above : wet clearance c ≡ true → Lt clearance (c .sounding)
+  unfolding wet
+  wet-above = lt→Lt clearance (c .sounding) p q
 
 abbrev pub most : Float
 most = fin false 1 (pos 20)
@@ -51,110 +58,77 @@ most = fin false 1 (pos 20)
 abbrev pub least : Float
 least = fin true 1 (pos 20)
 
-fraction-part : (clearance : Float) (dry far : Corner) → Ends clearance (dry .sounding) (far .sounding) → AtMost (fraction clearance dry far) 1 1
-unfolding fraction inRange
-fraction-part c dry far o =
-    let d = dry .sounding in
-    let w = far .sounding in
-    let fc = finite-in c (o .clear) in
-    let fd = finite-in d (o .dry-end .in-range) in
-    let fw = finite-in w (o .wet-end .in-range) in
-    let top : Le w most = le→Le w most fw tt (true→ (le w most) (and→ (le least w) (le w most) (o .wet-end .in-range) .1)) in
-    let bottom : Le least d = le→Le least d tt fd (true→ (le least d) (and→ (le least d) (le d most) (o .dry-end .in-range) .0)) in
-    let dc : Lt d c = not-le→Lt c d fc fd (o .is-dry) in
-    let cw : Le c w = le→Le c w fc fw (o .is-wet) in
-    part binary32 1048576 c d w
-    (record {
-      c-finite = fc;
-      d-finite = fd;
-      w-finite = fw;
-      d-fits = o .dry-end .holds;
-      w-fits = o .wet-end .holds;
-      d-c = omega arith;
-      c-w = cw;
-      d-w = lt-le d c w dc cw;
-      top = omega arith;
-      bottom = omega arith;
-      room = lit≤ tt;
-    })
+module _ (clearance : Float) (dry far : Corner) (o : Ends clearance dry far) where
+  within : Within binary32 1048576 clearance (dry .sounding) (far .sounding)
+  unfolding inRange
+  within =
+      let d = dry .sounding in
+      let w = far .sounding in
+      let fc = finite-in clearance (o .clear) in
+      let fd = finite-in d (o .dry-end .in-range) in
+      let fw = finite-in w (o .wet-end .in-range) in
+      let top : Le w most = le→Le w most fw tt (true→ (le w most) (and→ (le least w) (le w most) (o .wet-end .in-range) .1)) in
+      let bottom : Le least d = le→Le least d tt fd (true→ (le least d) (and→ (le least d) (le d most) (o .dry-end .in-range) .0)) in
+      let dc = dry-below clearance dry fc fd (o .is-dry) in
+      let cw = wet-above clearance far fc fw (o .is-wet) in
+      record {
+        c-finite = fc;
+        d-finite = fd;
+        w-finite = fw;
+        d-fits = o .dry-end .holds;
+        w-fits = o .wet-end .holds;
+        d-c = dc;
+        c-w = omega arith;
+        d-w = le-lt d clearance w dc cw;
+        top = omega arith;
+        bottom = omega arith;
+        room = lit≤ tt;
+      }
+
+  pub fraction-part : AtMost (fraction clearance dry far) 1 1
+  unfolding fraction
+  fraction-part = part binary32 1048576 clearance (dry .sounding) (far .sounding) within
+
+  pub fraction-none : T (eq (dry .sounding) clearance) → AtMost (fraction clearance dry far) 0 1
+  unfolding fraction
+  fraction-none e =
+      part-none binary32 1048576 clearance (dry .sounding) (far .sounding) within
+      (eq→Level (dry .sounding) clearance (within .d-finite) (within .c-finite) e)
 
 -- ---- the moving coordinate lies between the ends
 
-module _ (clearance : Float) (a : Axis) (low length : ℕ) (dry far : Corner) (fit : low + length ≤ 2 ^ 24)
-    (o : Ends clearance (dry .sounding) (far .sounding)) where
-  way-part : AtMost (way clearance length dry far) length 1
+-- what is known of the moving coordinate v of an edge from low to high, where the dry end's coordinate is n
+pub record Bounded (clearance : Float) (dry : Corner) (low high n : ℕ) (v : Float) : Type 0 where
+  pub between : Between binary32 low high v
+  pub bare : Bare v
+  pub still : T (eq (dry .sounding) clearance) → v ≡ float n
+
+module _ (clearance : Float) (a : Axis) (low length : ℕ) (dry far : Corner) (fit : low + length ≤ 2 ^ 24) (o : Ends clearance dry far) where
+  -- length × t, where t is at most k
+  way-part : (k m : ℕ) → length * k ≤ m → m ≤ length → AtMost (fraction clearance dry far) k 1 → AtMost (way clearance length dry far) m 1
   unfolding fraction
-  way-part = mul-at-most binary32 length (ofInt binary32 (pos length)) (fraction clearance dry far) (omega arith)
-      (whole-is binary32 length (omega arith)) (fraction-part clearance dry far o)
+  way-part k m h g p =
+      mul-at-most binary32 length k m (ofInt binary32 (pos length)) (fraction clearance dry far) h (omega arith) (whole-is binary32 length (omega arith)) p
 
-  pub up-between : 0 < length → low ≡ along a (placeOf dry) → low + length ≡ along a (placeOf far)
-      → Between binary32 low (low + length) (moving clearance a length dry far)
-  up-between h p q =
-      subst (Between binary32 low (low + length)) (moving-up clearance a length dry far low (low + length) p q (omega arith))
-      (add-between binary32 low length (ofInt binary32 (pos low)) (way clearance length dry far) fit way-part (whole-is binary32 low (omega arith)))
+  bounded : (n : ℕ) (v : Float) → Moved binary32 low (low + length) n (way clearance length dry far) v → Bounded clearance dry low (low + length) n v
+  unfolding float
+  bounded n v m =
+      record { between = m .between; bare = m .bare; still = λ e. m .still (way-part 0 0 (omega arith) (omega arith) (fraction-none clearance dry far o e)) }
 
-  pub down-between : low + length ≡ along a (placeOf dry) → low ≡ along a (placeOf far)
-      → Between binary32 low (low + length) (moving clearance a length dry far)
-  down-between p q =
-      subst (Between binary32 low (low + length)) (moving-down clearance a length dry far (low + length) low p q (omega arith))
-      (sub-between binary32 low length (ofInt binary32 (pos (low + length))) (way clearance length dry far) fit way-part
-      (whole-is binary32 (low + length) fit))
+  whole-way : AtMost (way clearance length dry far) length 1
+  whole-way = way-part 1 length (omega arith) (omega arith) (fraction-part clearance dry far o)
 
--- ---- the spot on an edge
+  pub up-bounded : 0 < length → low ≡ along a (placeOf dry) → low + length ≡ along a (placeOf far)
+      → Bounded clearance dry low (low + length) low (moving clearance a length dry far)
+  up-bounded h p q =
+      subst (Bounded clearance dry low (low + length) low) (moving-up clearance a length dry far low (low + length) p q (omega arith))
+      (bounded low _ (add-moved binary32 low length (way clearance length dry far) fit whole-way))
 
-coordinate-spot : (a : Axis) (v : Float) (p : Place) → coordinate a (spot a v p) ≡ v
-unfolding spot
-coordinate-spot X v p = refl
-coordinate-spot Y v p = refl
-coordinate-spot Z v p = refl
-
--- one end is dry and the other is wet
-one-wet : (b c : Bool) → T (not (Bool·beq b c)) → ((b ≡ false) × (c ≡ true)) ⊎ ((b ≡ true) × (c ≡ false))
-one-wet true true t = absurd t
-one-wet true false t = inr (refl, refl)
-one-wet false true t = inl (refl, refl)
-one-wet false false t = absurd t
-
-module _ (corners : List Corner) (clearance : Float) (e : CellEdge) where
-  abbrev lower : Corner
-  lower = cornerAt corners (e .low)
-
-  abbrev upper : Corner
-  upper = cornerAt corners (upperEnd e)
-
-  -- the moving coordinate of the spot
-  abbrev moved : Float
-  moved =
-      cond (wet clearance upper) (moving clearance (e .axis) (2 ^ e .level) lower upper) (moving clearance (e .axis) (2 ^ e .level) upper lower)
-
-  bounded : Between binary32 (along (e .axis) (e .low)) (along (e .axis) (e .low) + 2 ^ e .level) moved → OnEdge e (spotOn corners clearance e)
-  unfolding OnEdge spotOn float
-  bounded b =
-      let at = coordinate-spot (e .axis) moved (e .low) in
-      rw (at, along-put (e .axis) (along (e .axis) (e .low) + 2 ^ e .level) (e .low)) (b .0, b .1, refl)
-
-  pub spot-bounded : along (e .axis) (e .low) + 2 ^ e .level ≤ 2 ^ 24 → T (inRange clearance) → Sounding (lower .sounding) → Sounding (upper .sounding)
-      → T (odd (wetAt corners clearance) (e .axis) (e .low) (e .level)) → OnEdge e (spotOn corners clearance e)
-  unfolding odd wetAt wet
-  spot-bounded fit c l u t = bounded (go (one-wet (le clearance (lower .sounding)) (le clearance (upper .sounding)) t))
-    where
-      at-lower : along (e .axis) (e .low) ≡ along (e .axis) (placeOf lower)
-      at-lower = ap (along (e .axis)) (sym (corner-place corners (e .low)))
-
-      at-upper : along (e .axis) (e .low) + 2 ^ e .level ≡ along (e .axis) (placeOf upper)
-      at-upper = sym (along-put (e .axis) _ (e .low)) ∙ ap (along (e .axis)) (sym (corner-place corners (upperEnd e)))
-
-      go : ((le clearance (lower .sounding) ≡ false) × (le clearance (upper .sounding) ≡ true)) ⊎
-          ((le clearance (lower .sounding) ≡ true) × (le clearance (upper .sounding) ≡ false))
-          → Between binary32 (along (e .axis) (e .low)) (along (e .axis) (e .low) + 2 ^ e .level) moved
-      go (inl (p, q)) =
-          rw q
-          (up-between clearance (e .axis) (along (e .axis) (e .low)) (2 ^ e .level) lower upper fit
-          (record { clear = c; dry-end = l; wet-end = u; is-dry = p; is-wet = q }) (pow-pos (e .level)) at-lower at-upper)
-      go (inr (p, q)) =
-          rw q
-          (down-between clearance (e .axis) (along (e .axis) (e .low)) (2 ^ e .level) upper lower fit
-          (record { clear = c; dry-end = u; wet-end = l; is-dry = q; is-wet = p }) at-upper at-lower)
+  pub down-bounded : low + length ≡ along a (placeOf dry) → low ≡ along a (placeOf far)
+      → Bounded clearance dry low (low + length) (low + length) (moving clearance a length dry far)
+  down-bounded p q =
+      subst (Bounded clearance dry low (low + length) (low + length)) (moving-down clearance a length dry far (low + length) low p q (omega arith))
+      (bounded (low + length) _ (sub-moved binary32 low length (way clearance length dry far) fit whole-way))
 
 -- ---- an edge on a longer one
 

@@ -1,4 +1,5 @@
 pub mod Reckoned
 pub mod Stored
 pub mod Bound
+pub mod Spots
 pub mod OnEdge

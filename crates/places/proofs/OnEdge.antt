@@ -1,4 +1,5 @@
--- In an accepted survey every edge that carries a point has two listed corners as its ends, within the box; so the point's place lies on it.
+-- In an accepted survey every edge has two listed corners as its ends, within the box. So what request 2 of document 02 says of places holds of every odd edge,
+-- and the place of every point lies on the edge that carries it.
 -- Assumes nothing.
 use Prim.Native.Nat.{ℕ, _+_, _*_, _/_, _^_}
 use mathlib.Core.Path.{_≡_, refl, sym, ap, subst}
@@ -18,14 +19,16 @@ use Rattle.base.proofs.Places.{put-one}
 use Rattle.rules.specs.Survey.{cornerRecord, cornersOf, placeOf, cornerAt, Survey}
 use Rattle.rules.specs.Edges.{CellEdge, upperEnd, isEdge, spotOn, OnEdge}
 use Rattle.rules.specs.Outputs.{inRange, surveyOf, accepted}
-use Rattle.rules.specs.Closing.{Carries}
+use Rattle.rules.specs.Closing.{Carries, isOdd}
+use Rattle.rules.specs.AwashPlaces.{Placed, AllPlaced}
 use Rattle.rules.specs.declared.Corner.{Corner}
 use Rattle.octree.specs.Lawful.{CornerOf, Lawful}
 use Rattle.octree.proofs.Accepted.{checked, accepted→, lawful}
 use Rattle.octree.proofs.Edges.{edge→, undivided→, crossed→}
 use Rattle.octree.proofs.Aligned.{edge-in-box}
 use Rattle.octree.proofs.Points.{carried-crossed}
-use Rattle.places.proofs.Bound.{Sounding, spot-bounded}
+use Rattle.places.proofs.Bound.{Sounding}
+use Rattle.places.proofs.Spots.{placed}
 
 -- both ends of an edge are listed
 pub ends-listed : (s : Survey) → Lawful s → (e : CellEdge) → T (isEdge (s .cells) (e .axis) (e .low) (e .level))
@@ -72,14 +75,24 @@ module _ (tc tk : List ℕ) (clearance : Float) (ok : T (accepted tc tk clearanc
   sounded q t =
       at-listed (λ c. Sounding (c .sounding)) (cornersOf tk) q (sounding-in tk (checked tc tk (accepted→ tc tk clearance ok .0) .soundings)) t
 
-  -- the place of the point that an edge carries never leaves the edge
-  pub on-edge : (e : CellEdge) (p : ℕ) → Carries (surveyOf tc tk clearance) e p → OnEdge e (spotOn (cornersOf tk) clearance e)
+  odd-placed : (e : CellEdge) → T (isEdge (surveyOf tc tk clearance .cells) (e .axis) (e .low) (e .level)) → T (isOdd (surveyOf tc tk clearance) e)
+      → Placed (cornersOf tk) clearance e
   unfolding surveyOf
-  on-edge e p carries =
+  odd-placed e t o =
       let s = surveyOf tc tk clearance in
       let law : Lawful s = lawful tc tk clearance ok in
-      let (u, odd) = crossed→ s (e .axis) (e .low) (e .level) (carried-crossed s e p carries) in
-      let t = undivided→ (s .cells) (e .axis) (e .low) (e .level) u .0 in
       let (lower, upper) = ends-listed s law e t in
       let inBox = edge-in-box (s .cells) (law .octree) (e .axis) (e .low) (e .level) t in
-      spot-bounded (cornersOf tk) clearance e (omega arith) (accepted→ tc tk clearance ok .1) (sounded (e .low) lower) (sounded (upperEnd e) upper) odd
+      placed (cornersOf tk) clearance e (omega arith) (accepted→ tc tk clearance ok .1) (sounded (e .low) lower) (sounded (upperEnd e) upper) o
+
+  -- the place of the point that an edge carries never leaves the edge
+  pub on-edge : (e : CellEdge) (p : ℕ) → Carries (surveyOf tc tk clearance) e p → OnEdge e (spotOn (cornersOf tk) clearance e)
+  on-edge e p carries =
+      let s = surveyOf tc tk clearance in
+      let (u, odd) = crossed→ s (e .axis) (e .low) (e .level) (carried-crossed s e p carries) in
+      odd-placed e (undivided→ (s .cells) (e .axis) (e .low) (e .level) u .0) odd .stays
+
+-- request 2 of document 02, of places
+pub all-placed : AllPlaced
+unfolding AllPlaced surveyOf
+all-placed tc tk clearance e ok = odd-placed tc tk clearance ok e

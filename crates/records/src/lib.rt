@@ -65,11 +65,11 @@ pub fn corner_at(corners: &[u8], n: usize) -> Corner
     Corner { x, y, z, sounding }
 }
 
-// A corner is wet if its sounding is at least the clearance.
+// A corner is wet if its sounding is greater than the clearance: one that is just awash is dry.
 pub fn is_wet(c: Corner, clearance: f32) -> bool
     ensures { λ r. ⌜ r ≡ wet clearance c ⌝ }
 {
-    c.sounding >= clearance
+    c.sounding > clearance
 }
 
 // Finite and not beyond 1,048,576 either way.

@@ -1,18 +1,18 @@
--- What `le` says of finite floats of any signs, as one inequality of natural numbers: a float is read as (hi - lo) / den.
+-- What `lt`, `le` and `eq` say of finite floats of any signs, as one comparison of natural numbers: a float is read as (hi - lo) / den.
 -- Assumes nothing.
 use Prim.Native.Nat.{ℕ, _+_, _*_, _≤_, _<_}
-use mathlib.Core.Path.{_≡_, refl, sym, _∙_, subst}
+use mathlib.Core.Path.{_≡_, refl, sym, ap₂, _∙_, subst}
 use mathlib.Core.Logic.{inl, inr, _⊎_}
 use mathlib.Core.Bool.{Bool, true, false, _&&_, _||_}
 use native.Mathlib.Nat.{le-of-eq, eq-or-lt-of-le, mul-le-mul-right, mul-lt-mul-of-pos-right, lt-of-mul-lt-mul-right, le-of-mul-le-mul-right}
 use native.Mathlib.Omega.{arith}
 use lib.IntN.{pos}
 use lib.Dec.{T, leb, ltb, eqb, leb→le, le→leb, ltb→lt, lt→ltb, eqb→eq}
-use lib.Ieee.{Float, nan, inf, fin, Format, up, down, le, ofInt}
+use lib.Ieee.{Float, nan, inf, fin, Format, up, down, lt, eq, le, ofInt}
 use lib.Ieee.Fits.{and-i, and-l, and-r, eq→eqb}
 use lib.Ieee.Scale.{finite}
 use lib.Ieee.Positive.{den, den-pos}
-use borrow.Author.Tests.{leb-true, leb-false}
+use borrow.Author.Tests.{leb-true, ltb-true, ltb-false}
 
 -- a finite float is (hi - lo) / den, and one of hi and lo is 0
 abbrev pub hi : Float → ℕ
@@ -27,12 +27,15 @@ lo (inf s) = 0
 lo (fin true m e) = m * up e
 lo (fin false m e) = 0
 
--- x ≤ y, and x < y, with the denominators multiplied out
+-- x ≤ y, x < y and x = y, with the denominators multiplied out
 abbrev pub Le : Float → Float → Type 0
 Le x y = hi x * den y + lo y * den x ≤ hi y * den x + lo x * den y
 
 abbrev pub Lt : Float → Float → Type 0
 Lt x y = hi x * den y + lo y * den x < hi y * den x + lo x * den y
+
+abbrev pub Level : Float → Float → Type 0
+Level x y = hi x * den y + lo y * den x ≡ hi y * den x + lo x * den y
 
 -- r is a number from low to high, ends included: no NaN and no infinity, since every comparison with a NaN is false
 abbrev pub Between : Format → ℕ → ℕ → Float → Type 0
@@ -45,8 +48,8 @@ same true false p q = absurd (p tt)
 same false true p q = absurd (q tt)
 same false false p q = refl
 
-leb-same : (a b c d : ℕ) → (a ≤ b → c ≤ d) → (c ≤ d → a ≤ b) → leb a b ≡ leb c d
-leb-same a b c d p q = same (leb a b) (leb c d) (λ t. le→leb c d (p (leb→le a b t))) (λ t. le→leb a b (q (leb→le c d t)))
+ltb-same : (a b c d : ℕ) → (a < b → c < d) → (c < d → a < b) → ltb a b ≡ ltb c d
+ltb-same a b c d p q = same (ltb a b) (ltb c d) (λ t. lt→ltb c d (p (ltb→lt a b t))) (λ t. lt→ltb a b (q (ltb→lt c d t)))
 
 eqb-of : (a b : ℕ) → a ≡ b → T (eqb a b)
 eqb-of a b h = eq→eqb h
@@ -63,58 +66,93 @@ or-is x y w p q r = same (x || y) w (to x y p q) (λ t. from x y (r t))
     from false y (inl t) = absurd t
     from false y (inr t) = t
 
--- a < b, or a test z that says a ≡ b
-le-or : (a b : ℕ) (z : Bool) → (T z → a ≡ b) → (a ≡ b → T z) → (ltb a b || (z && true)) ≡ leb a b
-le-or a b z p q =
-    or-is (ltb a b) (z && true) (leb a b) (λ t. omega (arith, ltb→lt, le→leb)) (λ t. le→leb a b (le-of-eq (p (and-l z true t))))
-    (λ t. elim (eq-or-lt-of-le (leb→le a b t)) [ inl e ↦ inr (and-i z true (q e) tt) | inr h ↦ inl (lt→ltb a b h) ])
+-- each comparison is the test of its numbers
+lt-is : (x y : Float) → T (finite x) → T (finite y)
+    → lt x y ≡ ltb (hi x * den y + lo y * den x) (hi y * den x + lo x * den y)
+unfolding lt
+lt-is (fin false m e) (fin false n d) p q =
+    let a = m * up e * down d in
+    let b = n * up d * down e in
+    ltb-same a b (a + 0 * down e) (b + 0 * down d) (λ h. omega arith) (λ h. omega arith)
+lt-is (fin false m e) (fin true n d) p q =
+    let a = m * up e * down d in
+    let b = n * up d * down e in
+    ltb-same 0 0 (a + b) (0 * down e + 0 * down d) (λ h. omega arith) (λ h. omega arith)
+lt-is (fin true m e) (fin false n d) p q =
+    let a = m * up e * down d in
+    let b = n * up d * down e in
+    ltb-same 0 (a + b) (0 * down d + 0 * down e) (b + a) (λ h. omega arith) (λ h. omega arith)
+lt-is (fin true m e) (fin true n d) p q =
+    let a = m * up e * down d in
+    let b = n * up d * down e in
+    ltb-same b a (0 * down d + b) (0 * down e + a) (λ h. omega arith) (λ h. omega arith)
 
--- the comparison is the test of the inequality
+-- a test z that says a ≡ b
+eqb-is : (z : Bool) (a b : ℕ) → (T z → a ≡ b) → (a ≡ b → T z) → z ≡ eqb a b
+eqb-is z a b p q = same z (eqb a b) (λ t. eq→eqb (p t)) (λ t. q (eqb→eq a b t))
+
+-- zeros of unlike signs
+zeros : (a b : ℕ) → T (eqb a b && eqb a 0) → a + b ≡ 0
+zeros a b t =
+    let h : a ≡ b = eqb→eq a b (and-l (eqb a b) (eqb a 0) t) in
+    let k : a ≡ 0 = eqb→eq a 0 (and-r (eqb a b) (eqb a 0) t) in
+    omega arith
+
+eq-is : (x y : Float) → T (finite x) → T (finite y)
+    → eq x y ≡ eqb (hi x * den y + lo y * den x) (hi y * den x + lo x * den y)
+unfolding eq
+eq-is (fin false m e) (fin false n d) p q =
+    let a = m * up e * down d in
+    let b = n * up d * down e in
+    eqb-is (eqb a b && true) (a + 0 * down e) (b + 0 * down d)
+    (λ t. omega (arith, eqb→eq a b (and-l (eqb a b) true t))) (λ h. and-i (eqb a b) true (omega (arith, eqb-of)) tt)
+eq-is (fin false m e) (fin true n d) p q =
+    let a = m * up e * down d in
+    let b = n * up d * down e in
+    eqb-is (eqb a b && eqb a 0) (a + b) (0 * down e + 0 * down d)
+    (λ t. omega (arith, zeros a b t)) (λ h. and-i (eqb a b) (eqb a 0) (omega (arith, eqb-of)) (omega (arith, eqb-of)))
+eq-is (fin true m e) (fin false n d) p q =
+    let a = m * up e * down d in
+    let b = n * up d * down e in
+    eqb-is (eqb a b && eqb a 0) (0 * down d + 0 * down e) (b + a)
+    (λ t. omega (arith, zeros a b t)) (λ h. and-i (eqb a b) (eqb a 0) (omega (arith, eqb-of)) (omega (arith, eqb-of)))
+eq-is (fin true m e) (fin true n d) p q =
+    let a = m * up e * down d in
+    let b = n * up d * down e in
+    eqb-is (eqb a b && true) (0 * down d + b) (0 * down e + a)
+    (λ t. omega (arith, eqb→eq a b (and-l (eqb a b) true t))) (λ h. and-i (eqb a b) true (omega (arith, eqb-of)) tt)
+
 le-is : (x y : Float) → T (finite x) → T (finite y)
     → le x y ≡ leb (hi x * den y + lo y * den x) (hi y * den x + lo x * den y)
 unfolding le
-le-is (fin false m e) (fin false n d) p q =
-    let a = m * up e * down d in
-    let b = n * up d * down e in
-    le-or a b (eqb a b) (eqb→eq a b) (λ h. eq→eqb h)
-    ∙ leb-same a b (a + 0 * down e) (b + 0 * down d) (λ h. omega arith) (λ h. omega arith)
-le-is (fin false m e) (fin true n d) p q =
-    let a = m * up e * down d in
-    let b = n * up d * down e in
-    or-is false (eqb a b && eqb a 0) (leb (a + b) (0 * down e + 0 * down d)) (λ t. absurd t)
-    (λ t.
-    let h : a ≡ b = eqb→eq a b (and-l (eqb a b) (eqb a 0) t) in
-    let k : a ≡ 0 = eqb→eq a 0 (and-r (eqb a b) (eqb a 0) t) in
-    omega (arith, le→leb))
-    (λ t.
-    let h : a + b ≤ 0 * down e + 0 * down d = leb→le (a + b) (0 * down e + 0 * down d) t in
-    inr (and-i (eqb a b) (eqb a 0) (omega (arith, eqb-of)) (omega (arith, eqb-of))))
-le-is (fin true m e) (fin false n d) p q =
-    let a = m * up e * down d in
-    let b = n * up d * down e in
-    or-is (ltb 0 (a + b)) (eqb a b && eqb a 0) (leb (0 * down d + 0 * down e) (b + a)) (λ t. omega (arith, le→leb)) (λ t. omega (arith, le→leb))
-    (λ t. elim (eq-or-lt-of-le {n = 0} {m = a + b} (omega arith)) [
-      | inl h ↦ inr (and-i (eqb a b) (eqb a 0) (omega (arith, eqb-of)) (omega (arith, eqb-of)))
-      | inr h ↦ inl (lt→ltb 0 (a + b) h)
-    ])
-le-is (fin true m e) (fin true n d) p q =
-    let a = m * up e * down d in
-    let b = n * up d * down e in
-    le-or b a (eqb a b) (λ t. sym (eqb→eq a b t)) (λ h. eq→eqb (sym h))
-    ∙ leb-same b a (0 * down d + b) (0 * down e + a) (λ h. omega arith) (λ h. omega arith)
+le-is x y p q = ap₂ (λ a b. a || b) (lt-is x y p q) (eq-is x y p q) ∙ lt-or-eq (hi x * den y + lo y * den x) (hi y * den x + lo x * den y)
+  where
+    lt-or-eq : (a b : ℕ) → (ltb a b || eqb a b) ≡ leb a b
+    lt-or-eq a b =
+        or-is (ltb a b) (eqb a b) (leb a b) (λ t. omega (arith, ltb→lt, le→leb)) (λ t. le→leb a b (le-of-eq (eqb→eq a b t)))
+        (λ t. elim (eq-or-lt-of-le (leb→le a b t)) [ inl e ↦ inr (eq→eqb e) | inr h ↦ inl (lt→ltb a b h) ])
 
 module _ (x y : Float) (p : T (finite x)) (q : T (finite y)) where
   pub le→Le : le x y ≡ true → Le x y
   le→Le e = leb-true _ _ (sym (le-is x y p q) ∙ e)
 
-  pub not-le→Lt : le x y ≡ false → Lt y x
-  not-le→Lt e = leb-false _ _ (sym (le-is x y p q) ∙ e)
+  pub lt→Lt : lt x y ≡ true → Lt x y
+  lt→Lt e = ltb-true _ _ (sym (lt-is x y p q) ∙ e)
+
+  pub not-lt→Le : lt x y ≡ false → Le y x
+  not-lt→Le e = ltb-false _ _ (sym (lt-is x y p q) ∙ e)
+
+  pub eq→Level : T (eq x y) → Level x y
+  eq→Level t = eqb→eq _ _ (subst T (eq-is x y p q) t)
+
+  pub Level→eq : Level x y → T (eq x y)
+  Level→eq h = subst T (sym (eq-is x y p q)) (eq→eqb h)
 
   pub Le→le : Le x y → T (le x y)
   Le→le h = subst T (sym (le-is x y p q)) (le→leb _ _ h)
 
-pub lt-le : (x y z : Float) → Lt x y → Le y z → Lt x z
-lt-le x y z h k = lt-of-mul-lt-mul-right (den y) (omega (arith, mul-lt-mul-of-pos-right h (den-pos z), mul-le-mul-right (den x) k))
+pub le-lt : (x y z : Float) → Le x y → Lt y z → Lt x z
+le-lt x y z h k = lt-of-mul-lt-mul-right (den y) (omega (arith, mul-le-mul-right (den z) h, mul-lt-mul-of-pos-right k (den-pos x)))
 
 pub le-le : (x y z : Float) → Le x y → Le y z → Le x z
 le-le x y z h k = le-of-mul-le-mul-right {k = den y} (omega (arith, mul-le-mul-right (den z) h, mul-le-mul-right (den x) k)) (den-pos y)

@@ -37,15 +37,33 @@ use Rattle.rounding.proofs.Order.{hi, lo, Le, Between, le→Le, Le→le
 abbrev pub Rounds : Format → Float → ℕ → ℕ → Type 0
 Rounds f r n d = (s : Bool) × (r ≡ round f s n d) × (s ≡ true → n ≡ 0)
 
-plain : (f : Format) (r : Float) (n d : ℕ) → r ≡ round f false n d → Rounds f r n d
+pub plain : (f : Format) (r : Float) (n d : ℕ) → r ≡ round f false n d → Rounds f r n d
 plain f r n d e = (false, e, (λ t. absurd (false≢true t)))
-
--- the same fraction by another name
-like : (f : Format) (r : Float) (k n d : ℕ) → r ≡ round f false k d → k ≡ n → Rounds f r n d
-like f r k n d e h = plain f r n d (e ∙ ap (λ (i : ℕ). round f false i d) h)
 
 null : (f : Format) (s : Bool) (r : Float) (m n d : ℕ) → m ≡ 0 → n ≡ 0 → r ≡ round f s m d → Rounds f r n d
 null f s r m n d p q e = (s, e ∙ ap (λ (k : ℕ). round f s k d) (p ∙ sym q), (λ t. q))
+
+-- ---- signs
+
+-- a number without a minus sign
+abbrev pub Bare : Float → Type 0
+Bare nan = ⊥
+Bare (inf s) = s ≡ false
+Bare (fin s m e) = s ≡ false
+
+-- what is rounded without a sign has none
+pub round-bare : (f : Format) (n d : ℕ) → Bare (round f false n d)
+round-bare f n d = rw (round-is f false n d) (units-bare _ _)
+  where
+    value-bare : (x : Float) (a c : ℕ) → HasValue x false a c → Bare x
+    value-bare (fin s m e) a c h = h .0
+
+    pick : (q k : ℕ) (b : Bool) → Bare (cond b (odd (suc (prec f)) false q k (low f)) (inf false))
+    pick q k true = value-bare (odd (suc (prec f)) false q k (low f)) (q * 2 ^ k) (2 ^ low f) (odd-sign (suc (prec f)) false q k (low f))
+    pick q k false = refl
+
+    units-bare : (q k : ℕ) → Bare (units f false q k)
+    units-bare q k = unfold units in pick q k (ltb (q * 2 ^ k) (2 ^ (low f + suc (emax f))))
 
 -- ---- sums by their signs
 
@@ -77,15 +95,23 @@ module _ (f : Format) (s : Bool) (m : ℕ) (e : ℤ) (t : Bool) (n : ℕ) (d : �
 abbrev pub Gap : Float → Float → ℕ → Type 0
 Gap x y g = g + (hi y * den x + lo x * den y) ≡ hi x * den y + lo y * den x
 
+-- from a number without a sign, y at most that
+pub sub-bare : (f : Format) (x y : Float) → T (finite x) → Bare x → T (finite y) → Le y x
+    → (g : ℕ) × Gap x y g × (sub f x y ≡ round f false g (den x * den y))
+sub-bare f (fin true m e) y p s q h = absurd (true≢false s)
+sub-bare f (fin false m e) (fin false n d) p s q h =
+    let a = m * up e * down d in
+    let b = n * up d * down e in
+    (a - b, omega arith, subtracted f false m e false n d ∙ sum-unlike f a b (down e * down d) (omega arith))
+sub-bare f (fin false m e) (fin true n d) p s q h =
+    let a = m * up e * down d in
+    let b = n * up d * down e in
+    (a + b, omega arith, subtracted f false m e true n d ∙ sum-like f false a b (down e * down d))
+
 pub sub-rounds : (f : Format) (x y : Float) → T (finite x) → T (finite y) → Le y x → (g : ℕ) × Gap x y g × Rounds f (sub f x y) g (den x * den y)
-sub-rounds f (fin false m e) (fin false n d) p q h =
-    let a = m * up e * down d in
-    let b = n * up d * down e in
-    (a - b, omega arith, plain f _ (a - b) (down e * down d) (subtracted f false m e false n d ∙ sum-unlike f a b (down e * down d) (omega arith)))
-sub-rounds f (fin false m e) (fin true n d) p q h =
-    let a = m * up e * down d in
-    let b = n * up d * down e in
-    (a + b, omega arith, plain f _ (a + b) (down e * down d) (subtracted f false m e true n d ∙ sum-like f false a b (down e * down d)))
+sub-rounds f (fin false m e) y p q h =
+    let (g, a, r) = sub-bare f (fin false m e) y p refl q h in
+    (g, a, plain f _ g (down e * den y) r)
 sub-rounds f (fin true m e) (fin false n d) p q h =
     let a = m * up e * down d in
     let b = n * up d * down e in (
@@ -100,26 +126,16 @@ sub-rounds f (fin true m e) (fin true n d) p q h =
     (b - a, omega arith, plain f _ (b - a) (down e * down d) (subtracted f true m e true n d ∙ sum-neg f a b (down e * down d) (omega arith)))
 
 -- the other operations, at operands that are not below zero: `lo x ≡ 0`
-pub add-rounds : (f : Format) (x y : Float) → T (finite x) → T (finite y) → lo x ≡ 0 → lo y ≡ 0
-    → Rounds f (add f x y) (hi x * den y + hi y * den x) (den x * den y)
-add-rounds f (fin false m e) (fin false n d) p q h k = plain f _ _ _ (added f false m e false n d ∙ sum-like f false _ _ _)
-add-rounds f (fin false m e) (fin true n d) p q h k =
+pub add-bare : (f : Format) (x y : Float) → T (finite x) → Bare x → T (finite y) → lo y ≡ 0
+    → add f x y ≡ round f false (hi x * den y + hi y * den x) (den x * den y)
+add-bare f (fin true m e) y p s q k = absurd (true≢false s)
+add-bare f (fin false m e) (fin false n d) p s q k = added f false m e false n d ∙ sum-like f false _ _ _
+add-bare f (fin false m e) (fin true n d) p s q k =
     let a = m * up e * down d in
     let b = n * up d * down e in
     let z : b ≡ 0 = rw k (omega arith) in
-    like f _ (a - b) (a + 0 * down e) _ (added f false m e true n d ∙ sum-unlike f a b (down e * down d) (omega arith)) (omega arith)
-add-rounds f (fin true m e) (fin false n d) p q h k =
-    let a = m * up e * down d in
-    let b = n * up d * down e in
-    let z : a ≡ 0 = rw h (omega arith) in
-    like f _ (b - a) (0 * down d + b) _ (added f true m e false n d ∙ sum-neg f a b (down e * down d) (omega arith)) (omega arith)
-add-rounds f (fin true m e) (fin true n d) p q h k =
-    let a = m * up e * down d in
-    let b = n * up d * down e in
-    let y : a ≡ 0 = rw h (omega arith) in
-    let z : b ≡ 0 = rw k (omega arith) in
-    null f true _ (a + b) (0 * down d + 0 * down e) (down e * down d) (omega arith) (omega arith)
-    (added f true m e true n d ∙ sum-like f true a b (down e * down d))
+    let same : a - b ≡ a + 0 * down e = omega arith in
+    added f false m e true n d ∙ sum-unlike f a b (down e * down d) (omega arith) ∙ ap (λ (i : ℕ). round f false i (down e * down d)) same
 
 pub mul-rounds : (f : Format) (x y : Float) → T (finite x) → T (finite y) → lo x ≡ 0 → lo y ≡ 0 → Rounds f (mul f x y) (hi x * hi y) (den x * den y)
 unfolding mul
@@ -159,22 +175,9 @@ whole-is f n h = go (round f false n 1) (round-whole f false n h)
     go (fin true m e) v = absurd (true≢false (v .0))
     go (fin false m e) v = (tt, refl, sym (mul-one (m * up e)) ∙ v .1)
 
--- what is rounded without a sign has none
-abbrev Bare : Float → Type 0
-Bare nan = ⊥
-Bare (inf s) = s ≡ false
-Bare (fin s m e) = s ≡ false
-
-units-bare : (f : Format) (q k : ℕ) → Bare (units f false q k)
-unfolding units
-units-bare f q k = go (ltb (q * 2 ^ k) (2 ^ (low f + suc (emax f))))
-  where
-    value-bare : (x : Float) (a c : ℕ) → HasValue x false a c → Bare x
-    value-bare (fin s m e) a c h = h .0
-
-    go : (b : Bool) → Bare (cond b (odd (suc (prec f)) false q k (low f)) (inf false))
-    go true = value-bare (odd (suc (prec f)) false q k (low f)) (q * 2 ^ k) (2 ^ low f) (odd-sign (suc (prec f)) false q k (low f))
-    go false = refl
+pub whole-bare : (f : Format) (n : ℕ) → Bare (ofInt f (pos n))
+unfolding ofInt
+whole-bare f n = round-bare f n 1
 
 cross : (m e n d p q : ℕ) → 0 < d → n * q ≡ p * d → m * d ≤ n * e → m * q ≤ p * e
 cross m e n d p q D h k = le-of-mul-le-mul-right {k = d} (omega (arith, mul-le-mul-right q k, ap (λ (z : ℕ). z * e) h)) D
@@ -201,7 +204,7 @@ pub rounded-at-most : (f : Format) (r : Float) (n d : ℕ) (y : Float) (p q : �
 rounded-at-most f r n d y p q D k v t = rw (k .1) (go (k .0) (k .2))
   where
     go : (s : Bool) → (s ≡ true → n ≡ 0) → AtMost (round f s n d) p q
-    go false z = under (round f false n d) y p q (rw (round-is f false n d) (units-bare f _ _)) v t
+    go false z = under (round f false n d) y p q (round-bare f n d) v t
     go true z =
         rw (z refl)
         (signed-zero (round f true 0 d) d p q D

@@ -2,3 +2,4 @@ pub mod Surveys
 pub mod Starred
 pub mod Further
 pub mod WhichEnd
+pub mod Awash

@@ -9,11 +9,13 @@ use lib.ListN.{length, replicate}
 use lib.Ieee.{Float, binary32, ofBits, toBits}
 use Rattle.base.specs.Lists.{any, all, keep, collect, bit}
 use Rattle.base.specs.Grid.{Place, origin, Axis, X, axes, same}
-use Rattle.rules.specs.Survey.{cellsOf}
-use Rattle.rules.specs.Edges.{onSide}
+use Rattle.rules.specs.Survey.{cellsOf, cornersOf}
+use Rattle.rules.specs.Edges.{edge, onSide, isEdge, odd, spotOn}
 use Rattle.rules.specs.Steps.{sideBy, Face, Step, steps, saddleCut, faceSteps}
-use Rattle.rules.specs.Outputs.{surveyRefusal, surveyOf, Drawing, draw, Enquired, refused, even, crossing, enquiry, coordinates}
+use Rattle.rules.specs.Outputs.{surveyRefusal, accepted, surveyOf, Drawing, draw, Enquired, refused, even, crossing, enquiry, coordinates}
+use Rattle.rules.specs.Closing.{isOdd}
 use Rattle.rules.specs.StepByAnswers.{oddEdges, faceAnswers, stepBy, hasSmallFace}
+use Rattle.rules.specs.AwashPlaces.{dryCorner, fractionOn, cornerSpot}
 use Rattle.rules.specs.declared.End.{End}
 use Rattle.rules.specs.declared.End.the-variants.{Lower, Upper}
 
@@ -35,7 +37,10 @@ Soundings = Place → ℕ
 abbrev pub at : List Place → ℕ → ℕ → Soundings
 at ps v w p = cond (any (same p) ps) v w
 
--- bits of floats: +1, -1, 2, 3
+-- bits of floats: -0, +1, -1, 2, 3
+abbrev pub minusZero : ℕ
+minusZero = 0x8000_0000
+
 abbrev pub one : ℕ
 one = 0x3f80_0000
 
@@ -87,13 +92,14 @@ split = record { cells = cellTable (1 ∷ leaves 8); corners = grid (0 ∷ 512 �
 
 -- a check by itself; a drawing with slices of two lengths; an enquiry by axis, lower end and length; the steps of a face by its four wet marks; of
 -- a face on a side, whether it is a small face of some leaf, how many edges are odd, the steps by the rules, with their count, and the step by the answers
--- for its four edges
+-- for its four edges; of an edge by axis, lower end and level, whether the survey is accepted, whether it is an edge and odd, t, the dry end and the place
 pub data Call : Type 0 where
   checking : Call
   drawing : ℕ → ℕ → Call
   asking : ℕ → Place → ℕ → Call
   stepping : Bool → Bool → Bool → Bool → Call
   seeing : Axis → Bool → Face → Call
+  reckoning : Axis → Place → ℕ → Call
 
 -- two tables, the bits of a clearance, a call and its answer
 pub record Example : Type 0 where
@@ -152,6 +158,7 @@ stepNumbers ss = collect (λ t. t .0 ∷ t .1 ∷ []) ss
 
 unfoldable pub outcome : Call → Float → List ℕ → List ℕ → List ℕ
 unfolding surveyRefusal draw enquiry ofBits toBits saddleCut surveyOf faceSteps hasSmallFace oddEdges faceAnswers
+    accepted cornersOf isEdge odd spotOn dryCorner fractionOn cornerSpot
 outcome checking clearance tc tk = surveyRefusal tc tk ∷ []
 outcome (drawing n m) clearance tc tk = drawingNumbers (draw tc tk clearance (replicate n (ofBits binary32 oldFloat)) (replicate m oldNumber))
 outcome (asking a p l) clearance tc tk = answerNumbers (enquiry tc tk clearance a p l)
@@ -160,6 +167,12 @@ outcome (seeing a upper f) clearance tc tk =
     let s = surveyOf tc tk clearance in
     let ss = faceSteps s (sideBy a upper) f in
     bit (hasSmallFace tc tk clearance a upper f) ∷ oddEdges s a f ∷ length ss ∷ stepNumbers ss ++ stepNumbers (stepBy upper (faceAnswers tc tk clearance a f))
+outcome (reckoning a p l) clearance tc tk =
+    let s = surveyOf tc tk clearance in
+    let corners = cornersOf tk in
+    let e = edge a p l in
+    bit (accepted tc tk clearance) ∷ bit (isEdge (s .cells) a p l) ∷ bit (isOdd s e) ∷ bits (fractionOn corners clearance e) ∷
+    map bits (coordinates (cornerSpot (dryCorner corners clearance e)) ++ coordinates (spotOn corners clearance e))
 
 unfoldable pub outcomeOf : Example → List ℕ
 unfolding outcome ofBits

@@ -1,3 +1,4 @@
+pub mod Awash
 pub mod Survey
 pub mod Edges
 pub mod Steps
@@ -5,3 +6,4 @@ pub mod WhichEnd
 pub mod Outputs
 pub mod Closing
 pub mod StepByAnswers
+pub mod AwashPlaces

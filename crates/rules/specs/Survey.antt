@@ -6,9 +6,10 @@ use mathlib.Core.List.{List, [], _∷_, _++_, map}
 use lib.Dec.{eqb}
 use lib.ListN.{length}
 use lib.IntN.{pos}
-use lib.Ieee.{Float, fin, binary32, ofBits, le}
+use lib.Ieee.{Float, fin, binary32, ofBits}
 use Rattle.base.specs.Lists.{first, count, little, bytes}
 use Rattle.base.specs.Grid.{Place, origin, Axis, same, octants}
+unfoldable pub use Rattle.rules.specs.Awash.{wet}
 use Rattle.rules.specs.declared.Corner.{Corner}
 use Rattle.rules.specs.declared.Leaf.{Leaf}
 
@@ -74,11 +75,7 @@ unfoldable pub leafOf : List Corner → Cell → Leaf
 unfolding cornerAt
 leafOf cs c = record { corners = map (cornerAt cs) (cellCorners c) }
 
--- wet: the sounding is at least the clearance
-unfoldable pub wet : Float → Corner → Bool
-unfolding le
-wet clearance c = le clearance (c .sounding)
-
+-- the corner at a place is wet
 unfoldable pub wetAt : List Corner → Float → Place → Bool
 unfolding wet cornerAt
 wetAt corners clearance p = wet clearance (cornerAt corners p)

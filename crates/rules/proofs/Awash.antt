@@ -1,0 +1,59 @@
+-- Examples of document 02, request 2: corners just awash, and places reckoned from them.
+-- Assumes nothing.
+use Prim.Native.Nat.{ℕ}
+use mathlib.Core.List.{List, [], _∷_, _++_}
+use lib.ListN.{replicate}
+use Rattle.base.specs.Grid.{X}
+use Rattle.rules.proofs.Surveys.{place, at, minusZero, one, minusOne, two, three, leaf, split}
+use Rattle.rules.proofs.Surveys.{drawing, asking, reckoning, Example, example, exampleAt, untouched, Right, right, Each, each}
+use Rattle.rules.proofs.Starred.{f64, f512, f1024, eight, twins}
+
+-- bits of floats: the least number above 0, and the greatest below it; a quarter; the greatest sounding, and the least
+abbrev pub aboveZero : ℕ
+aboveZero = 1
+
+abbrev pub belowZero : ℕ
+belowZero = 0x8000_0001
+
+abbrev pub quarter : ℕ
+quarter = 0x3e80_0000
+
+abbrev pub greatest : ℕ
+greatest = 0x4980_0000
+
+abbrev pub least : ℕ
+least = 0xc980_0000
+
+-- one split, the centre wet and every other corner just awash: each of the six points lies at the dry end
+abbrev pub centreAwash : ℕ → ℕ → ℕ → Example
+centreAwash clearance wet dry =
+    exampleAt clearance split (at (place 512 512 512 ∷ []) wet dry) (drawing 18 24)
+    (0 ∷ 6 ∷ 8 ∷ 0 ∷ f512 ∷ f512 ∷ f1024 ∷ f512 ∷ f512 ∷ f512 ∷ 0 ∷ f512 ∷ f512 ∷ f1024 ∷ f512 ∷ f512 ∷ f512 ∷ 0 ∷ f512 ∷ f512 ∷ f1024 ∷ eight)
+
+unfoldable pub awash : List Example
+unfolding eight twins
+awash =
+    centreAwash 0 one 0 ∷
+    centreAwash 0 one minusZero ∷
+    centreAwash minusZero one 0 ∷
+    centreAwash one two one ∷
+    -- every corner awash: no points; the same at the greatest clearance
+    example split (λ p. 0) (drawing 3 3) (0 ∷ 0 ∷ 0 ∷ untouched 3 3) ∷
+    exampleAt greatest leaf (λ p. greatest) (drawing 3 3) (0 ∷ 0 ∷ 0 ∷ untouched 3 3) ∷
+    -- one corner by the least number above the clearance: wet, and t is 1 by rounding; by the greatest below it: dry
+    example leaf (at (place 0 0 0 ∷ []) aboveZero minusOne) (drawing 9 3) (0 ∷ 3 ∷ 1 ∷ replicate 9 0 ++ 0 ∷ 1 ∷ 2 ∷ []) ∷
+    example leaf (at (place 0 0 0 ∷ []) belowZero minusOne) (drawing 9 3) (0 ∷ 0 ∷ 0 ∷ untouched 9 3) ∷
+    -- an enquiry at the least clearance: only what lies above the least sounding is wet
+    exampleAt least leaf (at (place 0 0 0 ∷ []) minusOne least) (asking 0 (place 0 0 0) 1024) (0 ∷ 0 ∷ f1024 ∷ 0 ∷ 0 ∷ 1 ∷ []) ∷
+    -- t, the dry end and the place: awash with the wet end higher, then lower; at clearance -0, t is -0, and no coordinate is
+    example leaf (at (place 1024 0 0 ∷ []) one 0) (reckoning X (place 0 0 0) 10) (1 ∷ 1 ∷ 1 ∷ 0 ∷ 0 ∷ 0 ∷ 0 ∷ 0 ∷ 0 ∷ 0 ∷ []) ∷
+    example leaf (at (place 0 0 0 ∷ []) one 0) (reckoning X (place 0 0 0) 10) (1 ∷ 1 ∷ 1 ∷ 0 ∷ f1024 ∷ 0 ∷ 0 ∷ f1024 ∷ 0 ∷ 0 ∷ []) ∷
+    exampleAt minusZero leaf (at (place 1024 0 0 ∷ []) one 0) (reckoning X (place 0 0 0) 10) (1 ∷ 1 ∷ 1 ∷ minusZero ∷ 0 ∷ 0 ∷ 0 ∷ 0 ∷ 0 ∷ 0 ∷ []) ∷
+    -- dry -1 at 0, wet 3 at 256 and at 512: the short edge, and the divided edge above it
+    example twins (at (place 256 0 0 ∷ place 512 0 0 ∷ []) three minusOne) (reckoning X (place 0 0 0) 8) (1 ∷ 1 ∷ 1 ∷ quarter ∷ 0 ∷ 0 ∷ 0 ∷ f64 ∷ 0 ∷ 0 ∷ []) ∷
+    example twins (at (place 256 0 0 ∷ place 512 0 0 ∷ []) three minusOne) (reckoning X (place 0 0 0) 9)
+    (1 ∷ 1 ∷ 1 ∷ quarter ∷ 0 ∷ 0 ∷ 0 ∷ 0x4300_0000 ∷ 0 ∷ 0 ∷ []) ∷ []
+
+pub awash-right : Each Right awash
+unfolding right awash
+awash-right = each awash tt
