@@ -12,7 +12,7 @@ use lib.Ieee.Scale.{finite}
 use Rattle.base.specs.Grid.{Place, Axis, X, Y, Z, next, along}
 use Rattle.base.proofs.Tests.{and→, true→}
 use Rattle.base.proofs.Places.{along-put}
-use Rattle.rounding.proofs.Order.{Between, Le, Lt, le→Le, lt→Lt, not-lt→Le, eq→Level, le-lt}
+use Rattle.rounding.proofs.Order.{Between, Le, Lt, le→Le, lt→Lt, not-lt→Le, eq→Eq, le-lt}
 use Rattle.rounding.proofs.Rounds.{Bare, AtMost, whole-is, between-wider}
 use Rattle.rounding.proofs.Parts.{Within, part, part-none, mul-at-most, Moved, add-moved, sub-moved}
 use Rattle.rules.specs.Survey.{placeOf, wet}
@@ -93,7 +93,7 @@ module _ (clearance : Float) (dry far : Corner) (o : Ends clearance dry far) whe
   unfolding fraction
   fraction-none e =
       part-none binary32 1048576 clearance (dry .sounding) (far .sounding) within
-      (eq→Level (dry .sounding) clearance (within .d-finite) (within .c-finite) e)
+      (eq→Eq (dry .sounding) clearance (within .d-finite) (within .c-finite) e)
 
 -- ---- the moving coordinate lies between the ends
 

@@ -101,8 +101,8 @@ module _ (corners : List Corner) (clearance : Float) (e : CellEdge) where
         formula = is ∙ sym (λ i. spot (e .axis) (moved (is-dry i) (is-wet i)) (e .low));
         at-least = subst (λ x. T (le (float 0) x)) (sym t) (part .0);
         at-most = subst (λ x. T (le x (float 1))) (sym t) (part .1);
-        awash = λ level.
-            let same : T (eq (dry .sounding) clearance) = subst (λ c. T (eq (c .sounding) clearance)) is-dry level in (
+        awash = λ equal.
+            let same : T (eq (dry .sounding) clearance) = subst (λ c. T (eq (c .sounding) clearance)) is-dry equal in (
               subst (λ x. T (eq x (float 0))) (sym t) (at-most-zero binary32 _ (fraction-none clearance dry far o same)),
               is ∙ ap (λ v. spot (e .axis) v (e .low)) (r .still same) ∙ corner-spot (e .axis) n (e .low) dry at ∙ ap cornerSpot (sym is-dry),
             );

@@ -34,8 +34,8 @@ Le x y = hi x * den y + lo y * den x ≤ hi y * den x + lo x * den y
 abbrev pub Lt : Float → Float → Type 0
 Lt x y = hi x * den y + lo y * den x < hi y * den x + lo x * den y
 
-abbrev pub Level : Float → Float → Type 0
-Level x y = hi x * den y + lo y * den x ≡ hi y * den x + lo x * den y
+abbrev pub Eq : Float → Float → Type 0
+Eq x y = hi x * den y + lo y * den x ≡ hi y * den x + lo x * den y
 
 -- r is a number from low to high, ends included: no NaN and no infinity, since every comparison with a NaN is false
 abbrev pub Between : Format → ℕ → ℕ → Float → Type 0
@@ -142,11 +142,11 @@ module _ (x y : Float) (p : T (finite x)) (q : T (finite y)) where
   pub not-lt→Le : lt x y ≡ false → Le y x
   not-lt→Le e = ltb-false _ _ (sym (lt-is x y p q) ∙ e)
 
-  pub eq→Level : T (eq x y) → Level x y
-  eq→Level t = eqb→eq _ _ (subst T (eq-is x y p q) t)
+  pub eq→Eq : T (eq x y) → Eq x y
+  eq→Eq t = eqb→eq _ _ (subst T (eq-is x y p q) t)
 
-  pub Level→eq : Level x y → T (eq x y)
-  Level→eq h = subst T (sym (eq-is x y p q)) (eq→eqb h)
+  pub Eq→eq : Eq x y → T (eq x y)
+  Eq→eq h = subst T (sym (eq-is x y p q)) (eq→eqb h)
 
   pub Le→le : Le x y → T (le x y)
   Le→le h = subst T (sym (le-is x y p q)) (le→leb _ _ h)

@@ -13,7 +13,7 @@ use lib.Ieee.{Float, Format, prec, round, add, sub, mul, div, eq, le, ofInt, fit
 use lib.Ieee.Order.{round-mono}
 use lib.Ieee.Scale.{finite, round-same}
 use lib.Ieee.Positive.{num, den, positive, den-pos, own-value}
-use Rattle.rounding.proofs.Order.{hi, lo, Le, Lt, Level, Between, Level→eq, Le→le}
+use Rattle.rounding.proofs.Order.{hi, lo, Le, Lt, Eq, Between, Eq→eq, Le→le}
 use Rattle.rounding.proofs.Rounds.{Bare, round-bare, whole-bare, plain, AtMost, Whole, whole-is, Gap}
 use Rattle.rounding.proofs.Rounds.{sub-bare, sub-rounds, add-bare, mul-rounds, div-rounds, rounded-at-most, rounded-whole, rounded-between}
 use Rattle.rounding.proofs.Gaps.{gap-mono, gap-top, gap-unit, rounded-positive, num-pos}
@@ -32,10 +32,10 @@ pub record Within (f : Format) (K : ℕ) (c d w : Float) : Type 0 where
   pub bottom : lo d ≤ K * den d + hi d
   pub room : K + K ≤ 2 ^ prec f
 
-module _ (f : Format) (x d : Float) (k : ℕ) (fit : k ≤ 2 ^ prec f) where
-  div-at-most : T (finite x) → lo x ≡ 0 → T (positive d) → hi x * den d ≤ k * (num d * den x) → AtMost (div f x d) k 1
-  div-at-most p z q h =
-      rounded-whole f (div f x d) (hi x * den d) (num d * den x) k (mul-pos (num-pos d q) (den-pos x)) (div-rounds f x d p z q) fit h
+div-at-most : (f : Format) (x d : Float) (k : ℕ) → k ≤ 2 ^ prec f → T (finite x) → lo x ≡ 0 → T (positive d) → hi x * den d ≤ k * (num d * den x)
+    → AtMost (div f x d) k 1
+div-at-most f x d k fit p z q h =
+    rounded-whole f (div f x d) (hi x * den d) (num d * den x) k (mul-pos (num-pos d q) (den-pos x)) (div-rounds f x d p z q) fit h
 
 module _ (f : Format) (K : ℕ) (c d w : Float) (i : Within f K c d w) where
   -- w - d does not overflow, and is rounded to no zero
@@ -66,7 +66,7 @@ module _ (f : Format) (K : ℕ) (c d w : Float) (i : Within f K c d w) where
       div-at-most f (sub f c d) D 1 (pow-pos (prec f)) (N .0) (N .1) P (omega (arith, N .2))
 
   -- where c equals d, c - d is a zero
-  pub part-none : Level d c → AtMost (div f (sub f c d) (sub f w d)) 0 1
+  pub part-none : Eq d c → AtMost (div f (sub f c d) (sub f w d)) 0 1
   part-none e =
       let (g, a, r) = sub-rounds f c d (i .c-finite) (i .d-finite) (i .d-c) in
       let (k, b, is, P) = gap-positive in
@@ -80,7 +80,7 @@ mul-at-most f l k m x t h fit v p =
     (mul-rounds f x t (v .0) (p .0) (v .1) (p .1)) fit
     (omega (arith, ap (λ (z : ℕ). z * hi t) (v .2), mul-le-mul-right (l * den x) (p .2), mul-le-mul-right (den x * den t) h))
 
--- what a number is from 0 on
+-- the bounds as comparisons say them
 pub at-most-between : (f : Format) (k : ℕ) (x : Float) → k ≤ 2 ^ prec f → AtMost x k 1 → Between f 0 k x
 at-most-between f k x fit p =
     let v = whole-is f 0 (omega arith) in
@@ -94,7 +94,7 @@ pub at-most-zero : (f : Format) (x : Float) → AtMost x 0 1 → T (eq x (ofInt 
 at-most-zero f x p =
     let v = whole-is f 0 (omega arith) in
     let none : hi x ≡ 0 = omega (arith, p .2) in
-    Level→eq x (ofInt f (pos 0)) (p .0) (v .0) (rw (v .1, v .2, p .1, none) (omega arith))
+    Eq→eq x (ofInt f (pos 0)) (p .0) (v .0) (rw (v .1, v .2, p .1, none) (omega arith))
 
 -- r is the whole number n moved by y: it lies from low to high, has no minus sign, and is n where y is a zero
 pub record Moved (f : Format) (low high n : ℕ) (y r : Float) : Type 0 where
@@ -103,12 +103,9 @@ pub record Moved (f : Format) (low high n : ℕ) (y r : Float) : Type 0 where
   pub still : AtMost y 0 1 → r ≡ ofInt f (pos n)
 
 module _ (f : Format) (a l : ℕ) (y : Float) (fit : a + l ≤ 2 ^ prec f) (p : AtMost y l 1) where
-  moved : (n g : ℕ) (r : Float) → r ≡ round f false g (den (ofInt f (pos n)) * den y) → 0 < den (ofInt f (pos n)) * den y
-      → a * (den (ofInt f (pos n)) * den y) ≤ g → g ≤ (a + l) * (den (ofInt f (pos n)) * den y)
-      → (hi y ≡ 0 → g ≡ n * (den (ofInt f (pos n)) * den y)) → Moved f a (a + l) n y r
+  moved : (n g d : ℕ) (r : Float) → 0 < d → r ≡ round f false g d → a * d ≤ g → g ≤ (a + l) * d → (hi y ≡ 0 → g ≡ n * d) → Moved f a (a + l) n y r
   unfolding ofInt
-  moved n g r e D low high still =
-      let d = den (ofInt f (pos n)) * den y in
+  moved n g d r D e low high still =
       record {
         between = rounded-between f r g d a (a + l) D (plain f r g d e) (omega arith) fit low high;
         bare = subst Bare (sym e) (round-bare f g d);
@@ -121,8 +118,8 @@ module _ (f : Format) (a l : ℕ) (y : Float) (fit : a + l ≤ 2 ^ prec f) (p : 
       let v = whole-is f a (omega arith) in
       let e = ap (λ (z : ℕ). z * den y) (v .2) in
       let h = mul-le-mul-right (den x) (p .2) in
-      moved a (hi x * den y + hi y * den x) (add f x y) (add-bare f x y (v .0) (whole-bare f a) (p .0) (p .1)) (mul-pos (den-pos x) (den-pos y))
-      (omega arith) (omega arith) (λ z. rw z (omega arith))
+      moved a (hi x * den y + hi y * den x) (den x * den y) (add f x y) (mul-pos (den-pos x) (den-pos y))
+      (add-bare f x y (v .0) (whole-bare f a) (p .0) (p .1)) (omega arith) (omega arith) (λ z. rw z (omega arith))
 
   pub sub-moved : Moved f a (a + l) (a + l) y (sub f (ofInt f (pos (a + l))) y)
   sub-moved =
@@ -133,4 +130,5 @@ module _ (f : Format) (a l : ℕ) (y : Float) (fit : a + l ≤ 2 ^ prec f) (p : 
       let i = ap (λ (z : ℕ). z * den y) (v .1) in
       let j = ap (λ (z : ℕ). z * den x) (p .1) in
       let (g, c, r) = sub-bare f x y (v .0) (whole-bare f (a + l)) (p .0) (omega arith) in
-      moved (a + l) g (sub f x y) r (mul-pos (den-pos x) (den-pos y)) (omega arith) (omega arith) (λ z. omega (arith, ap (λ (k : ℕ). k * den x) z))
+      moved (a + l) g (den x * den y) (sub f x y) (mul-pos (den-pos x) (den-pos y)) r (omega arith) (omega arith)
+      (λ z. omega (arith, ap (λ (k : ℕ). k * den x) z))

@@ -1,8 +1,8 @@
 -- Document 02, request 2, "Awash is dry": "Places keep their formula; t may now be 0 without rounding, and is never above 1." The formula is that of
--- Edges.antt. What is stated here of places is proved in places/proofs/Awash.antt.
+-- Edges.antt. What is stated here of t and of places is proved as `all-placed` in places/proofs/OnEdge.antt.
 use Prim.Native.Nat.{ℕ, _^_}
 use mathlib.Core.Path.{_≡_}
-use mathlib.Core.Bool.{Bool, true, false, cond}
+use mathlib.Core.Bool.{Bool, true, not, cond}
 use mathlib.Core.List.{List}
 use lib.Dec.{T}
 use lib.Ieee.{Float, nan, inf, fin, eq, le}
@@ -13,7 +13,7 @@ use Rattle.rules.specs.Outputs.{accepted, surveyOf, coordinates}
 use Rattle.rules.specs.Closing.{isOdd}
 use Rattle.rules.specs.declared.Corner.{Corner}
 
--- the corner at the dry end of an odd edge
+-- the corner at the dry end of an odd edge, with its sounding
 unfoldable pub dryCorner : List Corner → Float → CellEdge → Corner
 unfolding wet cornerAt
 dryCorner corners clearance e =
@@ -39,11 +39,11 @@ unfoldable pub cornerSpot : Corner → Spot
 unfolding float
 cornerSpot c = record { x = float (c .x); y = float (c .y); z = float (c .z) }
 
--- a number without a minus sign, which -0 has
+-- without a minus sign; -0 has one
 abbrev pub unsigned : Float → Bool
 unsigned nan = true
-unsigned (inf minus) = cond minus false true
-unsigned (fin minus m e) = cond minus false true
+unsigned (inf minus) = not minus
+unsigned (fin minus m e) = not minus
 
 -- What is said of the place of an odd edge.
 pub record Placed (corners : List Corner) (clearance : Float) (e : CellEdge) : Type 0 where
@@ -61,7 +61,7 @@ pub record Placed (corners : List Corner) (clearance : Float) (e : CellEdge) : T
   -- no coordinate is -0, though t is where the clearance is -0 and the dry sounding +0
   pub no-minus : T (all unsigned (coordinates (spotOn corners clearance e)))
 
--- This holds of every odd edge, divided or not, of every accepted survey.
+-- The sentence: this holds of every odd edge, divided or not, of every accepted survey.
 unfoldable pub AllPlaced : Type 0
 unfolding cellsOf isEdge accepted surveyOf cornersOf
 AllPlaced =

@@ -1,4 +1,5 @@
--- Document 01, "The survey": both tables, the cells by record number, the corners, wetness. The box runs from 0 to 1,024 on each axis.
+-- Document 01, "The survey": both tables, the cells by record number, the corners, wetness. The box runs from 0 to 1,024 on each axis. When a corner is wet
+-- is said by request 2 of document 02: Awash.antt.
 -- The document speaks of depths; here a cell of depth d has the level 10 - d, and its size is 2 ^ level.
 use Prim.Native.Nat.{ℕ, pred, _*_, _/_, _^_}
 use mathlib.Core.Bool.{Bool, false, not, cond}
