@@ -3,7 +3,7 @@
  *
  * A survey is a cell table (an octree) and a corner table (a sounding at every corner of every cell). At a clearance the surface between wet and dry
  * corners is drawn as points on the octree's edges and triangles between them. The calls are those of document 01, the scope document, with what the
- * requests of document 02 add; what they return, and what they write, is proved equal to the documents' rules for every input.
+ * requests of document 02 add and change; what they return, and what they write, is proved equal to the documents' rules for every input.
  *
  * BUILDING
  *
@@ -24,7 +24,7 @@
  * greater than its own record number. The table has 1 + 8 * (number of split records) records, at most 2,049.
  *
  * Corner records rise strictly by z, then y, then x. There is one for every corner of every cell and none else, at most 4,872. A corner is wet if its
- * sounding is at least the clearance, else dry.
+ * sounding is greater than the clearance, else dry: ground exactly at the clearance, just awash, is dry. The two zeros are equal.
  *
  * WHAT THE CALLER LENDS
  *

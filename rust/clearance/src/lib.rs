@@ -2,8 +2,8 @@
 //!
 //! A survey is a cell table (an octree) and a corner table (a sounding at every corner of every cell), both as bytes. At a clearance the surface
 //! between wet and dry corners is drawn as points on the octree's edges and triangles between them. The calls are those of document 01, with what the
-//! requests of document 02 add; what they return, and what they write, is proved equal to the documents' rules for every input. What can't be drawn is
-//! refused by one of the eleven [refusals](Refusal).
+//! requests of document 02 add and change; what they return, and what they write, is proved equal to the documents' rules for every input. What can't
+//! be drawn is refused by one of the eleven [refusals](Refusal).
 //!
 //! Nothing is kept between calls and nothing is allocated inside them, so any number of threads may call. A call needs less than 512 KiB of stack.
 //!
@@ -15,7 +15,8 @@
 //!   each axis; the child in place i is in the upper half of x, y and z by bits 0, 1 and 2 of i;
 //! - a corner is 10 bytes: x, y and z (16 bits each) and the sounding (binary32). Corners rise by z, then y, then x.
 //!
-//! A corner is wet if its sounding is at least the clearance.
+//! A corner is wet if its sounding is greater than the clearance, else dry: ground exactly at the clearance, just awash, is dry. The two zeros are
+//! equal.
 //!
 //! ```
 //! use clearance::{draw_to_vec, enquire, Edge, End, Refusal};
@@ -37,6 +38,9 @@
 //!
 //! let along_y = enquire(&cells, &corners, 0.0, 1, [0, 0, 0], 1024)?;
 //! assert_eq!(along_y, Edge::Crossing { number: 1, place: [0.0, 512.0, 0.0], wet_end: End::Lower });
+//!
+//! // At a clearance of 1 that corner is awash, and dry as all others are.
+//! assert_eq!(enquire(&cells, &corners, 1.0, 1, [0, 0, 0], 1024)?, Edge::Even);
 //!
 //! corners.truncate(70);
 //! assert_eq!(draw_to_vec(&cells, &corners, 0.0), Err(Refusal::CornerSet));

@@ -1,6 +1,6 @@
 //! The compiled drawing against the independent Rust drawing, bit for bit, with guard elements around both slices and NaNs of many patterns in them
-//! beforehand; and demand 3 counted on what came back. Each failure names the seed that makes the survey again. `CLEARANCE_SMALL` and
-//! `CLEARANCE_LARGE` set how many random surveys are drawn.
+//! beforehand; demand 3 counted on what came back, and points looked for where ground is awash. Each failure names the seed that makes the survey
+//! again. `CLEARANCE_SMALL` and `CLEARANCE_LARGE` set how many random surveys are drawn.
 
 mod number;
 
@@ -10,6 +10,7 @@ use clearance::{Counts, Refused};
 use drawing::Drawn;
 use number::number;
 use surveys::lent::{self, bits};
+use surveys::plain::Plain;
 use surveys::{closing, damage, document, generate, Survey};
 
 /// So many elements stand before each slice and behind it.
@@ -44,7 +45,7 @@ fn numbers_of(result: Result<Counts, Refused>) -> Drawn {
     Drawn { number: number(result), points, triangles }
 }
 
-/// Draws with both drawings into slices of these lengths; result and slices must be the same bits.
+/// Draws with both drawings into slices of these lengths; result and slices must be the same bits, and no coordinate −0.
 fn assert_same(survey: &Survey, points: usize, triangles: usize, what: &str) -> Slices {
     let Survey { cells, corners, clearance } = survey;
     let compiled = |floats: &mut [f32], numbers: &mut [u32]| {
@@ -56,6 +57,7 @@ fn assert_same(survey: &Survey, points: usize, triangles: usize, what: &str) -> 
     let (expected, expected_floats, expected_numbers) = drawn(independent, points, triangles, what);
     assert_eq!(result, expected, "{what}: result");
     assert!(bits(&floats) == bits(&expected_floats), "{what}: points");
+    assert!(!bits(&floats).contains(&(-0f32).to_bits()), "{what}: a coordinate is -0");
     assert_eq!(numbers, expected_numbers, "{what}: triangles");
     (result, floats, numbers)
 }
@@ -66,8 +68,9 @@ type Slices = (Drawn, Vec<f32>, Vec<u32>);
 /// What a check of demand 3 says of a drawing.
 type ClosingCheck = fn(&Survey, &[f32], &[u32]) -> Result<(), closing::Breach>;
 
-/// Draws into slices that are exactly long enough, one element too short, empty, and longer than needed.
-fn assert_drawn(survey: &Survey, check: ClosingCheck, what: &str) {
+/// Draws into slices that are exactly long enough, one element too short, empty, and longer than needed. Gives back how many points lie where
+/// ground is awash.
+fn assert_drawn(survey: &Survey, check: ClosingCheck, what: &str) -> usize {
     let (counts, ..) = assert_same(survey, 0, 0, what);
     let (points, triangles) = (3 * counts.points as usize, 3 * counts.triangles as usize);
     let (result, floats, numbers) = assert_same(survey, points, triangles, what);
@@ -79,6 +82,21 @@ fn assert_drawn(survey: &Survey, check: ClosingCheck, what: &str) {
         assert_eq!(assert_same(survey, points, triangles - 1, what).0.number, 10, "{what}");
     }
     assert_same(survey, points + 4, triangles + 7, what);
+    assert_awash(survey, &floats, what)
+}
+
+/// Where the dry end of its edge is awash, a point lies at that end; gives back how many do.
+fn assert_awash(survey: &Survey, floats: &[f32], what: &str) -> usize {
+    let plain = Plain::read(survey);
+    let mut awash = 0;
+    for (&edge, place) in plain.carriers.iter().zip(floats.chunks_exact(3)) {
+        let [dry_end, _] = plain.dry_and_wet(edge);
+        if plain.is_awash(dry_end) {
+            assert_eq!(bits(place), bits(&dry_end.map(f32::from)), "{what}: not at the end that is awash");
+            awash += 1;
+        }
+    }
+    awash
 }
 
 /// Counting, and drawing into vectors, give what was drawn into slices.
@@ -110,7 +128,7 @@ fn the_surveys_of_the_document() {
         let (points, triangles) = (3 * example.points.len(), 3 * example.triangles.len());
         let (result, floats, numbers) = assert_same(&example.survey, points, triangles, example.name);
         assert_eq!(result.number, 0, "{}", example.name);
-        assert_eq!(floats, example.points.concat(), "{}", example.name);
+        assert_eq!(bits(&floats), bits(&example.points.concat()), "{}", example.name);
         assert_eq!(numbers, example.triangles.concat(), "{}", example.name);
     }
     for example in document::checked() {
@@ -121,16 +139,21 @@ fn the_surveys_of_the_document() {
 
 #[test]
 fn small_surveys() {
+    let mut awash = 0;
     for seed in 0..small() {
-        assert_drawn(&generate::small_survey(seed, 6), closing::check, &format!("small, seed {seed}"));
+        awash +=
+            assert_drawn(&generate::small_survey(seed, 6), closing::check, &format!("small, seed {seed}"));
     }
+    assert!(awash as u64 > 5 * small(), "{awash} points where ground is awash");
 }
 
 #[test]
 fn surveys_of_every_size() {
+    let mut awash = 0;
     for seed in 0..large() {
-        assert_drawn(&generate::survey(seed), closing::check, &format!("survey, seed {seed}"));
+        awash += assert_drawn(&generate::survey(seed), closing::check, &format!("survey, seed {seed}"));
     }
+    assert!(awash as u64 > 10 * large(), "{awash} points where ground is awash");
 }
 
 /// Six times the space inside a drawing that is closed everywhere.
@@ -146,17 +169,18 @@ fn six_volumes(survey: &Survey) -> f64 {
 }
 
 /// The surface as a whole turns counter-clockwise seen from the dry side, so that the wet space counts as positive. It may be nothing, where every wet
-/// sounding is the clearance.
+/// sounding is so little above the clearance that each point is rounded to its wet end.
 #[test]
 fn surveys_with_a_dry_outside_close_everywhere() {
-    let mut spaces = 0;
+    let (mut awash, mut spaces) = (0, 0);
     for seed in 0..large() {
         let survey = generate::interior(seed);
-        assert_drawn(&survey, closing::check_everywhere, &format!("interior, seed {seed}"));
+        awash += assert_drawn(&survey, closing::check_everywhere, &format!("interior, seed {seed}"));
         let volumes = six_volumes(&survey);
         assert!(volumes >= -1.0e-3, "interior, seed {seed}: {volumes}");
         spaces += u64::from(volumes > 1.0);
     }
+    assert!(awash as u64 > 10 * large(), "{awash} points where ground is awash");
     assert!(spaces > large() / 4, "{spaces} with space inside");
 }
 

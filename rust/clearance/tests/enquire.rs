@@ -38,12 +38,14 @@ fn crossing(number: u32, [x, y, z]: [f32; 3], upper_wet: bool) -> Numbers {
     [0, 1 + number, x.to_bits(), y.to_bits(), z.to_bits(), 1 + u32::from(upper_wet)]
 }
 
+/// Asks both; the answers must be the same bits, and no coordinate −0.
 fn assert_same(survey: &Survey, axis: u32, lower_end: [u32; 3], length: u32, what: &str) -> Numbers {
     let Survey { cells, corners, clearance } = survey;
     let [x, y, z] = lower_end;
     let answer = numbers(clearance::enquire(cells, corners, *clearance, axis, lower_end, length));
     let expected = expected_numbers(drawing::enquire(cells, corners, *clearance, axis, x, y, z, length));
     assert_eq!(answer, expected, "{what}: axis {axis}, lower end {lower_end:?}, length {length}");
+    assert!(!answer[2..5].contains(&(-0f32).to_bits()), "{what}: axis {axis}, lower end {lower_end:?}: -0");
     answer
 }
 
@@ -58,6 +60,22 @@ fn the_quarter_place() {
     let answer = assert_same(&survey, 0, [0, 0, 0], 256, "dry -1 at 0, wet 3 at 256");
     assert_eq!(answer, [0, 1, 64f32.to_bits(), 0, 0, 2]);
     assert_eq!(assert_same(&survey, 3, [0, 0, 0], 256, "axis 3")[0], 11);
+}
+
+#[test]
+fn ground_awash_is_dry() {
+    for (sounding, clearance) in document::ZEROS {
+        let what = format!("sounding {sounding:?} at clearance {clearance:?}");
+        let awash = document::awash(sounding, clearance);
+        let around = document::awash_around(1.0, sounding, clearance);
+        for axis in 0..3 {
+            assert_eq!(assert_same(&awash, axis, [0, 0, 0], 1_024, &what), [0; 6], "{what}");
+            let mut low = [512; 3];
+            low[axis as usize] = 0;
+            let at_dry_end = crossing(2 * axis, low.map(|at| at as f32), true);
+            assert_eq!(assert_same(&around, axis, low, 512, &what), at_dry_end, "{what}");
+        }
+    }
 }
 
 #[test]
@@ -131,18 +149,29 @@ fn damaged_surveys_are_refused_alike() {
     }
 }
 
-/// Places of random pairs of soundings, on one leaf: they agree, and lie on their edges. `CLEARANCE_PAIRS` sets how many.
+/// Places of random pairs of soundings, on one leaf: they agree, lie on their edges, and at the dry end where that is awash. `CLEARANCE_PAIRS` sets how
+/// many.
 #[test]
 fn places_of_random_soundings() {
     let pairs = std::env::var("CLEARANCE_PAIRS").map_or(100_000, |text| text.parse().expect("a number"));
+    let mut awash = [0; 2];
     for seed in 0..pairs {
         let survey = generate::small_survey(seed, 0);
+        let plain = Plain::read(&survey);
         for axis in 0..3 {
-            let answer = assert_same(&survey, axis, [0, 0, 0], 1_024, &format!("pair, seed {seed}"));
-            if answer[1] != 0 {
-                let moving = f32::from_bits(answer[2 + axis as usize]);
-                assert!((0.0..=1024.0).contains(&moving), "seed {seed}: {moving}");
+            let [_, point, place @ .., wet_end] =
+                assert_same(&survey, axis, [0, 0, 0], 1_024, &format!("pair, seed {seed}"));
+            if point == 0 {
+                continue;
+            }
+            let moving = f32::from_bits(place[axis as usize]);
+            assert!((0.0..=1024.0).contains(&moving), "seed {seed}: {moving}");
+            let [dry_end, _] = plain.dry_and_wet(plain::Edge::new(axis as usize, [0; 3], 1_024));
+            if plain.is_awash(dry_end) {
+                assert_eq!(place, dry_end.map(|at| f32::from(at).to_bits()), "seed {seed}");
+                awash[wet_end as usize - 1] += 1;
             }
         }
     }
+    assert!(awash.iter().all(|&count| count > pairs / 20), "awash, with either wet end: {awash:?}");
 }

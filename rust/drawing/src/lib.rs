@@ -1,4 +1,5 @@
-//! Clearance surfaces over a lock survey: a drawing of the rules of document 01, with what document 02 adds.
+//! Clearance surfaces over a lock survey: a drawing of the rules of document 01, with what document 02 adds and
+//! changes.
 //!
 //! A survey is a cell table (an octree) and a corner table (a sounding at every corner of every cell). At a
 //! given clearance the surface between wet and dry corners is drawn as points on the octree's edges and

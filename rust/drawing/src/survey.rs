@@ -11,9 +11,9 @@ pub(crate) struct Corner {
 }
 
 impl Corner {
-    /// Wet if the sounding is at least the clearance; the two zeros are equal.
+    /// Wet if the sounding is greater than the clearance: document 02, "Awash is dry". The two zeros are equal.
     pub(crate) fn is_wet(self, clearance: f32) -> bool {
-        self.sounding >= clearance
+        self.sounding > clearance
     }
 
     /// Corner records rise strictly by this: z, then y, then x.

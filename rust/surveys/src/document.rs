@@ -1,9 +1,13 @@
-//! The surveys of document 01, "Surveys to try", and a few small ones, with what is known of them.
+//! The surveys of document 01, "Surveys to try", and a few small ones, with what is known of them. Where
+//! document 02 changes what document 01 says of a survey, its request is named.
 //!
 //! Clearance 0, wet +1, dry −1 unless said.
 
 use crate::survey::{cell_table, too_deep_table, Octree};
 use crate::Survey;
+
+/// A sounding and a clearance, both zero: every pair of signs.
+pub const ZEROS: [(f32, f32); 4] = [(0.0, 0.0), (-0.0, 0.0), (0.0, -0.0), (-0.0, -0.0)];
 
 /// A survey with the whole of its drawing.
 pub struct Drawn {
@@ -15,6 +19,12 @@ pub struct Drawn {
     pub points: Vec<[f32; 3]>,
     /// The point numbers of each triangle.
     pub triangles: Vec<[u32; 3]>,
+}
+
+impl Drawn {
+    fn new(name: &'static str, survey: Survey, points: Vec<[f32; 3]>, triangles: Vec<[u32; 3]>) -> Drawn {
+        Drawn { name, survey, points, triangles }
+    }
 }
 
 /// A survey that a check of 1 to 8 decides.
@@ -57,9 +67,17 @@ pub fn quarter_place() -> Survey {
     wet_at(&[0, 1], &[[256, 0, 0]], 3.0)
 }
 
-/// Sounding 0 at (0,0,0), of either sign, at a clearance of 0 of either sign: wet.
+/// Sounding 0 at (0,0,0), of either sign, at a clearance of 0 of either sign: dry. So says document 02, request
+/// 2; in document 01 it is wet.
 pub fn awash(sounding: f32, clearance: f32) -> Survey {
-    wet_at(&[], &[[0, 0, 0]], sounding).at(clearance)
+    sounded(sounding).at(clearance)
+}
+
+/// One split, the centre wet, and the sounding of every other corner equal to the clearance, which may be a
+/// zero of the other sign.
+pub fn awash_around(wet: f32, sounding: f32, clearance: f32) -> Survey {
+    let at = |place| if place == [512; 3] { wet } else { sounding };
+    Survey::new(&Octree::splitting(&[0]), at).at(clearance)
 }
 
 /// The twin survey: records 0 and 1 split, 46 corners, only (256,512,512) wet.
@@ -112,10 +130,10 @@ pub fn too_many_cells() -> Survey {
 
 /// The surveys that are drawn.
 pub fn drawn() -> Vec<Drawn> {
-    let drawn = |name, survey, points, triangles| Drawn { name, survey, points, triangles };
+    let drawn = Drawn::new;
     let mut list = vec![
         drawn("one corner wet", one_corner_wet(), near_origin(512.0), vec![[0, 1, 2]]),
-        drawn("the centre wet", centre_wet(), centre_points(), centre_triangles()),
+        drawn("the centre wet", centre_wet(), centre_points(256.0), centre_triangles()),
         drawn("all dry", level(-1.0), vec![], vec![]),
         drawn("all wet", level(1.0), vec![], vec![]),
         drawn(
@@ -135,8 +153,30 @@ pub fn drawn() -> Vec<Drawn> {
         drawn("two on a line", two_on_a_line(1.0), line_points(1.0), line_triangles()),
         drawn("two on a line, uneven", two_on_a_line(2.0), line_points(2.0), line_triangles()),
     ];
-    for (sounding, clearance) in [(0.0, 0.0), (-0.0, 0.0), (0.0, -0.0), (-0.0, -0.0)] {
-        list.push(drawn("awash", awash(sounding, clearance), near_origin(0.0), vec![[0, 1, 2]]));
+    list.extend(drawn_at_clearance());
+    list
+}
+
+/// The surveys with soundings equal to the clearance or next to it: document 02, request 2.
+fn drawn_at_clearance() -> Vec<Drawn> {
+    let drawn = Drawn::new;
+    let around = |wet, sounding, clearance| {
+        let survey = awash_around(wet, sounding, clearance);
+        drawn("awash around the centre", survey, centre_points(512.0), centre_triangles())
+    };
+    // Its difference to the dry soundings is rounded to 1, and so t is 1.
+    let barely_wet = sounded(0.0f32.next_up());
+    let mut list = vec![
+        around(1.1, 0.1, 0.1),
+        around(0.1f32.next_up(), 0.1, 0.1),
+        around(1_048_576.0, -1_048_576.0, -1_048_576.0),
+        drawn("barely wet", barely_wet, near_origin(0.0), vec![[0, 1, 2]]),
+        drawn("the greatest clearance", sounded(1_048_576.0).at(1_048_576.0), vec![], vec![]),
+        drawn("the least clearance", level(-1_048_576.0).at(-1_048_576.0), vec![], vec![]),
+    ];
+    for (sounding, clearance) in ZEROS {
+        list.push(drawn("awash", awash(sounding, clearance), vec![], vec![]));
+        list.push(around(1.0, sounding, clearance));
     }
     list
 }
@@ -167,14 +207,16 @@ fn near_origin(far: f32) -> Vec<[f32; 3]> {
     vec![[far, 0.0, 0.0], [0.0, far, 0.0], [0.0, 0.0, far]]
 }
 
-fn centre_points() -> Vec<[f32; 3]> {
+/// The points of one split with only the centre wet, so far from it.
+fn centre_points(far: f32) -> Vec<[f32; 3]> {
+    let (below, above) = (512.0 - far, 512.0 + far);
     vec![
-        [256.0, 512.0, 512.0],
-        [768.0, 512.0, 512.0],
-        [512.0, 256.0, 512.0],
-        [512.0, 768.0, 512.0],
-        [512.0, 512.0, 256.0],
-        [512.0, 512.0, 768.0],
+        [below, 512.0, 512.0],
+        [above, 512.0, 512.0],
+        [512.0, below, 512.0],
+        [512.0, above, 512.0],
+        [512.0, 512.0, below],
+        [512.0, 512.0, above],
     ]
 }
 

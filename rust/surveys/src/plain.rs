@@ -85,9 +85,14 @@ impl Plain {
         plain
     }
 
-    /// Whether the corner at this place is wet.
+    /// Whether the corner at this place is wet: document 02, "Awash is dry".
     pub fn is_wet(&self, place: [u16; 3]) -> bool {
-        self.soundings[&place] >= self.clearance
+        self.soundings[&place] > self.clearance
+    }
+
+    /// Whether the ground at this place is exactly at the clearance.
+    pub fn is_awash(&self, place: [u16; 3]) -> bool {
+        self.soundings[&place] == self.clearance
     }
 
     /// Whether the ends of an edge differ in wetness.
@@ -129,19 +134,30 @@ impl Plain {
         above.halves().into_iter().find(|&half| half != edge).map(|other| self.point(other))
     }
 
-    /// The place of the point on an odd undivided edge.
-    pub fn place(&self, edge: Edge) -> [f32; 3] {
-        let upper_wet = self.is_wet(edge.high());
-        let (dry_end, wet_end) =
-            if upper_wet { (edge.low(), edge.high()) } else { (edge.high(), edge.low()) };
-        let (dry, wet) = (self.soundings[&dry_end], self.soundings[&wet_end]);
+    /// The dry and the wet end of an odd edge.
+    pub fn dry_and_wet(&self, edge: Edge) -> [[u16; 3]; 2] {
+        if self.is_wet(edge.high()) {
+            [edge.low(), edge.high()]
+        } else {
+            [edge.high(), edge.low()]
+        }
+    }
+
+    /// Document 01's t of an odd undivided edge: which part of the way from the dry to the wet end its point is.
+    pub fn t(&self, edge: Edge) -> f32 {
+        let [dry, wet] = self.dry_and_wet(edge).map(|end| self.soundings[&end]);
         let above_dry: f32 = self.clearance - dry;
         let wet_above_dry: f32 = wet - dry;
-        let t: f32 = above_dry / wet_above_dry;
-        let way: f32 = f32::from(edge.length) * t;
+        above_dry / wet_above_dry
+    }
+
+    /// The place of the point on an odd undivided edge.
+    pub fn place(&self, edge: Edge) -> [f32; 3] {
+        let [dry_end, wet_end] = self.dry_and_wet(edge);
+        let way: f32 = f32::from(edge.length) * self.t(edge);
         let from = f32::from(dry_end[edge.axis]);
         let mut place = dry_end.map(f32::from);
-        place[edge.axis] = if upper_wet { from + way } else { from - way };
+        place[edge.axis] = if wet_end == edge.high() { from + way } else { from - way };
         place
     }
 }

@@ -17,7 +17,7 @@ enum Kind {
     Spread,
     /// The distance inside a ball around this place.
     Ball { centre: [u16; 3], radius: u16 },
-    /// Most of them equal to the clearance or next to it.
+    /// Most of them equal to the clearance, zeros of both signs where it is zero, or next to it.
     AtClearance,
     /// Zeros of both signs, and the smallest numbers on both sides of them.
     Zeros,
@@ -41,7 +41,7 @@ impl Soundings {
     pub(crate) fn random(random: &mut Random) -> Soundings {
         let kind = random_kind(random);
         let clearance = match kind {
-            Kind::Spread | Kind::AtClearance => random.pick(&[0.0, 0.1, -7.25, 33.333, 1.0e-3]),
+            Kind::Spread | Kind::AtClearance => random.pick(&[0.0, -0.0, 0.1, -7.25, 33.333, 1.0e-3]),
             Kind::Zeros => random.pick(&[0.0, -0.0]),
             Kind::Huge => random.pick(&[0.0, 1.0, MOST, -MOST, 0.3]),
             Kind::Subnormal => subnormal(random),
@@ -66,7 +66,7 @@ impl Soundings {
                 0 => self.clearance.next_up(),
                 1 => self.clearance.next_down(),
                 2 => random.pick(&[-50.0, 50.0]),
-                _ => self.clearance,
+                _ => self.awash(random),
             },
             Kind::Zeros => random.pick(&[0.0, -0.0, 0.0f32.next_up(), 0.0f32.next_down(), 1.0, -1.0]),
             Kind::Huge => random.pick(&[MOST, -MOST, MOST.next_down(), 1.0, -1.0, 1.0e-30, -1.0e-30]),
@@ -75,15 +75,23 @@ impl Soundings {
         }
     }
 
-    /// A lawful sounding that is dry: below the clearance, which is not the least lawful number.
+    /// A lawful sounding that is dry: every second one is equal to the clearance, the others are below it where
+    /// lawful soundings are.
     pub(crate) fn dry(&self, random: &mut Random) -> f32 {
+        if random.one_in(2) {
+            return self.awash(random);
+        }
         let lower = [self.clearance.next_down(), self.clearance - 1.0, self.clearance - 0.3, -MOST];
-        random.pick(&lower).clamp(-MOST, self.clearance.next_down())
+        random.pick(&lower).max(-MOST)
     }
 
-    /// Whether some lawful sounding is dry.
-    pub(crate) fn can_be_dry(&self) -> bool {
-        self.clearance > -MOST
+    /// A sounding equal to the clearance: a zero of either sign where it is zero.
+    fn awash(&self, random: &mut Random) -> f32 {
+        if self.clearance == 0.0 {
+            random.pick(&[0.0, -0.0])
+        } else {
+            self.clearance
+        }
     }
 }
 

@@ -199,6 +199,7 @@ fn overview() -> String {
         "Checks and draws lock surveys: the clearance surface over an octree of soundings, by the proved library.\n\n\
          usage: clearance COMMAND ARGUMENTS\n\n{}\n\
          DIR is a directory with the files cells, corners and clearance (four bytes, a little-endian binary32).\n\
+         A corner is wet if its sounding is greater than the clearance; ground exactly at the clearance is dry.\n\
          'clearance COMMAND --help' says more of a command.\n\
          Exit status: 0 if all is well, 1 if the survey is refused, 2 if the command line or a file is wrong.\n",
         lines.collect::<String>()

@@ -1,4 +1,4 @@
-//! Surveys by name: those of document 01, and basins sounded over octrees of several depths.
+//! Surveys by name: those of document 01 and one of ground awash, and basins sounded over octrees of several depths.
 
 use surveys::{document, Survey};
 
@@ -61,7 +61,10 @@ pub const EXAMPLES: &[Example] = &[
         document::opposite_corners_wet,
     ),
     drawn("quarter", "dry -1 at 0, wet 3 at 256: a point at 64", document::quarter_place),
-    drawn("awash", "sounding 0 at clearance 0: wet", || document::awash(0.0, 0.0)),
+    drawn("awash", "sounding 0 at clearance 0: dry, no points", || document::awash(0.0, 0.0)),
+    drawn("awash-around", "only the centre wet, the rest at the clearance: points at the dry ends", || {
+        document::awash_around(1.0, 0.0, 0.0)
+    }),
     drawn("greatest-sounding", "a sounding of 1,048,576", || document::sounded(1_048_576.0)),
     drawn("full", "2,049 cell records, the most there may be", document::full),
     drawn("deepest", "a cell of depth 9 is split", || document::chain(10)),

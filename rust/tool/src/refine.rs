@@ -27,7 +27,7 @@ pub struct Fineness {
     pub graded: bool,
 }
 
-/// The survey at clearance 0 of the space in which `distance` is at least 0. A part of the space so thin that it lies between the corners of cells may be
+/// The survey at clearance 0 of the space in which `distance` is above 0. A part of the space so thin that it lies between the corners of cells may be
 /// missed.
 pub fn survey(distance: impl Fn([f64; 3]) -> f64, fineness: Fineness) -> Survey {
     let split = refined(&distance, fineness);
@@ -122,7 +122,7 @@ fn halves(number: usize) -> [u8; 3] {
 
 /// Whether the surface is seen to pass: some distances are wet and some are dry.
 fn passes(lattice: &[f64; 27]) -> bool {
-    let wet = lattice.iter().filter(|&&distance| distance >= 0.0).count();
+    let wet = lattice.iter().filter(|&&distance| distance > 0.0).count();
     0 < wet && wet < lattice.len()
 }
 
@@ -215,6 +215,14 @@ mod tests {
     fn a_plane_needs_no_fine_cells() {
         let sizes: BTreeSet<u16> = leaves(&survey(slope, FINENESS)).iter().map(|leaf| leaf.size).collect();
         assert_eq!(sizes.first(), Some(&256));
+    }
+
+    #[test]
+    fn the_surface_passes_on_the_wet_side_of_ground_awash() {
+        let wall = |[x, _, _]: [f64; 3]| 512.0 - x;
+        let passes_from = |x| passes(&lattice(&wall, Cube { low: [x, 0, 0], size: 512 }));
+        assert!(passes_from(0));
+        assert!(!passes_from(512));
     }
 
     #[test]

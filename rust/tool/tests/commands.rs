@@ -131,6 +131,19 @@ fn enquire_answers_for_axes_by_letter_and_number() {
 }
 
 #[test]
+fn ground_awash_is_dry() {
+    let place = Place::new("awash");
+    let awash = place.example("awash");
+    assert_eq!(printed(&["draw", &awash]), "0 0\n");
+    assert_eq!(printed(&["enquire", &awash, "x", "0", "0", "0", "1024"]), "even\n");
+    let around = place.example("awash-around");
+    let answer = printed(&["enquire", &around, "x", "0", "512", "512", "512"]);
+    assert_eq!(answer, "crossing 0 0 512 512 upper end wet\n");
+    // The points are the middles of the box's sides.
+    assert!(printed(&["info", &around]).ends_with("closed at the box\nvolume     178956970.667\n"));
+}
+
+#[test]
 fn enquire_refuses_what_is_no_edge() {
     for arguments in [["3", "0", "0", "0", "512"], ["x", "1", "0", "0", "512"], ["x", "0", "0", "0", "2048"]]
     {
