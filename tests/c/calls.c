@@ -76,17 +76,25 @@ static void enquiries(const uint8_t *corners)
     EXPECT(is_number_alone(clearance_enquire(cells, 4, corners, 80, 2e6f, 0, 0, 0, 0, 1024), CLEARANCE_CLEARANCE));
 }
 
-/* A sounding of 0 at a clearance of 0 is dry, for both zeros; a dry end at the clearance holds the point of its edge. */
-static void ground_awash(const uint8_t *dry)
+static int is_plus_zero(float value)
 {
-    uint8_t *awash = corner_table(0.0f);
-    EXPECT(is_number_alone(clearance_enquire(cells, 4, awash, 80, 0.0f, 0, 0, 0, 0, 1024), 0));
-    EXPECT(is_number_alone(clearance_enquire(cells, 4, awash, 80, -0.0f, 0, 0, 0, 0, 1024), 0));
-    struct clearance_counts nothing = clearance_draw(cells, 4, awash, 80, 0.0f, NULL, 0, NULL, 0);
+    uint32_t bits;
+    memcpy(&bits, &value, sizeof bits);
+    return bits == 0;
+}
+
+/* A sounding of one zero at a clearance of the same or the other is dry. Its edge to a wet corner has the point at this dry end, at a place of +0. */
+static void ground_awash(float sounding, float clearance)
+{
+    uint8_t *corners = corner_table(sounding);
+    EXPECT(is_number_alone(clearance_enquire(cells, 4, corners, 80, clearance, 0, 0, 0, 0, 1024), 0));
+    struct clearance_counts nothing = clearance_draw(cells, 4, corners, 80, clearance, NULL, 0, NULL, 0);
     EXPECT(nothing.number == 0 && nothing.points == 0 && nothing.triangles == 0);
-    struct clearance_reply at_end = clearance_enquire(cells, 4, dry, 80, -3.0f, 1, 0, 0, 0, 1024);
-    EXPECT(at_end.crossing == 1 && at_end.y == 0.0f && at_end.wet_end == CLEARANCE_UPPER_END);
-    free(awash);
+    put_corner(corners + 10, 1, 1.0f);
+    struct clearance_reply at_end = clearance_enquire(cells, 4, corners, 80, clearance, 0, 0, 0, 0, 1024);
+    EXPECT(at_end.crossing == 1 && at_end.wet_end == CLEARANCE_UPPER_END);
+    EXPECT(is_plus_zero(at_end.x) && is_plus_zero(at_end.y) && is_plus_zero(at_end.z));
+    free(corners);
 }
 
 /* Draws into slices of at most 10 and 4 elements, which a refusal must leave as they were. */
@@ -139,7 +147,10 @@ int main(int count, char **arguments)
     EXPECT(clearance_check(cells, 4, wet, 80) == 0);
     empty_tables(wet);
     enquiries(wet);
-    ground_awash(dry);
+    ground_awash(0.0f, 0.0f);
+    ground_awash(-0.0f, 0.0f);
+    ground_awash(0.0f, -0.0f);
+    ground_awash(-0.0f, -0.0f);
     drawings(wet);
     if (count > 1) {
         trespass(wet);

@@ -13,8 +13,8 @@ use Rattle.base.specs.Grid.{Place, Axis, X, Y, Z, next, along}
 use Rattle.base.proofs.Tests.{and→, true→}
 use Rattle.base.proofs.Places.{along-put}
 use Rattle.rounding.proofs.Order.{Between, Le, Lt, le→Le, lt→Lt, not-lt→Le, eq→Eq, le-lt}
-use Rattle.rounding.proofs.Rounds.{Bare, AtMost, whole-is, between-wider}
-use Rattle.rounding.proofs.Parts.{Within, part, part-none, mul-at-most, Moved, add-moved, sub-moved}
+use Rattle.rounding.proofs.Rounds.{AtMost, whole-is, between-wider}
+use Rattle.rounding.proofs.Parts.{Within, part, part-zero, mul-at-most, Moved, add-moved, sub-moved}
 use Rattle.rules.specs.Survey.{placeOf, wet}
 use Rattle.rules.specs.Edges.{edge, float, fraction, moving, Spot, spot, coordinate, OnEdge}
 use Rattle.rules.specs.Outputs.{inRange}
@@ -42,7 +42,7 @@ pub record Ends (clearance : Float) (dry far : Corner) : Type 0 where
   pub is-dry : wet clearance dry ≡ false
   pub is-wet : wet clearance far ≡ true
 
--- what wetness says of the sounding; nothing here looks at its definition but these two
+-- what wetness says of the sounding; no other proof of this crate looks into its definition
 module _ (clearance : Float) (c : Corner) (p : T (finite clearance)) (q : T (finite (c .sounding))) where
   dry-below : wet clearance c ≡ false → Le (c .sounding) clearance
   unfolding wet
@@ -89,19 +89,13 @@ module _ (clearance : Float) (dry far : Corner) (o : Ends clearance dry far) whe
   unfolding fraction
   fraction-part = part binary32 1048576 clearance (dry .sounding) (far .sounding) within
 
-  pub fraction-none : T (eq (dry .sounding) clearance) → AtMost (fraction clearance dry far) 0 1
+  pub fraction-zero : T (eq (dry .sounding) clearance) → AtMost (fraction clearance dry far) 0 1
   unfolding fraction
-  fraction-none e =
-      part-none binary32 1048576 clearance (dry .sounding) (far .sounding) within
+  fraction-zero e =
+      part-zero binary32 1048576 clearance (dry .sounding) (far .sounding) within
       (eq→Eq (dry .sounding) clearance (within .d-finite) (within .c-finite) e)
 
 -- ---- the moving coordinate lies between the ends
-
--- what is known of the moving coordinate v of an edge from low to high, where the dry end's coordinate is n
-pub record Bounded (clearance : Float) (dry : Corner) (low high n : ℕ) (v : Float) : Type 0 where
-  pub between : Between binary32 low high v
-  pub bare : Bare v
-  pub still : T (eq (dry .sounding) clearance) → v ≡ float n
 
 module _ (clearance : Float) (a : Axis) (low length : ℕ) (dry far : Corner) (fit : low + length ≤ 2 ^ 24) (o : Ends clearance dry far) where
   -- length × t, where t is at most k
@@ -110,25 +104,26 @@ module _ (clearance : Float) (a : Axis) (low length : ℕ) (dry far : Corner) (f
   way-part k m h g p =
       mul-at-most binary32 length k m (ofInt binary32 (pos length)) (fraction clearance dry far) h (omega arith) (whole-is binary32 length (omega arith)) p
 
-  bounded : (n : ℕ) (v : Float) → Moved binary32 low (low + length) n (way clearance length dry far) v → Bounded clearance dry low (low + length) n v
-  unfolding float
-  bounded n v m =
-      record { between = m .between; bare = m .bare; still = λ e. m .still (way-part 0 0 (omega arith) (omega arith) (fraction-none clearance dry far o e)) }
+  pub way-zero : T (eq (dry .sounding) clearance) → AtMost (way clearance length dry far) 0 1
+  way-zero e = way-part 0 0 (omega arith) (omega arith) (fraction-zero clearance dry far o e)
 
-  whole-way : AtMost (way clearance length dry far) length 1
-  whole-way = way-part 1 length (omega arith) (omega arith) (fraction-part clearance dry far o)
+  way-whole : AtMost (way clearance length dry far) length 1
+  way-whole = way-part 1 length (omega arith) (omega arith) (fraction-part clearance dry far o)
 
-  pub up-bounded : 0 < length → low ≡ along a (placeOf dry) → low + length ≡ along a (placeOf far)
-      → Bounded clearance dry low (low + length) low (moving clearance a length dry far)
-  up-bounded h p q =
-      subst (Bounded clearance dry low (low + length) low) (moving-up clearance a length dry far low (low + length) p q (omega arith))
-      (bounded low _ (add-moved binary32 low length (way clearance length dry far) fit whole-way))
+  -- from the dry end's coordinate up, or down
+  pub up-moved : 0 < length → low ≡ along a (placeOf dry) → low + length ≡ along a (placeOf far)
+      → Moved binary32 low (low + length) low (way clearance length dry far) (moving clearance a length dry far)
+  up-moved h p q =
+      subst (Moved binary32 low (low + length) low (way clearance length dry far))
+      (moving-up clearance a length dry far low (low + length) p q (omega arith))
+      (add-moved binary32 low length (way clearance length dry far) fit way-whole)
 
-  pub down-bounded : low + length ≡ along a (placeOf dry) → low ≡ along a (placeOf far)
-      → Bounded clearance dry low (low + length) (low + length) (moving clearance a length dry far)
-  down-bounded p q =
-      subst (Bounded clearance dry low (low + length) (low + length)) (moving-down clearance a length dry far (low + length) low p q (omega arith))
-      (bounded (low + length) _ (sub-moved binary32 low length (way clearance length dry far) fit whole-way))
+  pub down-moved : low + length ≡ along a (placeOf dry) → low ≡ along a (placeOf far)
+      → Moved binary32 low (low + length) (low + length) (way clearance length dry far) (moving clearance a length dry far)
+  down-moved p q =
+      subst (Moved binary32 low (low + length) (low + length) (way clearance length dry far))
+      (moving-down clearance a length dry far (low + length) low p q (omega arith))
+      (sub-moved binary32 low length (way clearance length dry far) fit way-whole)
 
 -- ---- an edge on a longer one
 

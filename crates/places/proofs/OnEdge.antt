@@ -20,7 +20,7 @@ use Rattle.rules.specs.Survey.{cornerRecord, cornersOf, placeOf, cornerAt, Surv
 use Rattle.rules.specs.Edges.{CellEdge, upperEnd, isEdge, spotOn, OnEdge}
 use Rattle.rules.specs.Outputs.{inRange, surveyOf, accepted}
 use Rattle.rules.specs.Closing.{Carries, isOdd}
-use Rattle.rules.specs.AwashPlaces.{Placed, AllPlaced}
+use Rattle.rules.specs.AwashPlaces.{dryCorner, wetCorner, PlaceByEnds, PlacesByEnds}
 use Rattle.rules.specs.declared.Corner.{Corner}
 use Rattle.octree.specs.Lawful.{CornerOf, Lawful}
 use Rattle.octree.proofs.Accepted.{checked, accepted→, lawful}
@@ -76,7 +76,7 @@ module _ (tc tk : List ℕ) (clearance : Float) (ok : T (accepted tc tk clearanc
       at-listed (λ c. Sounding (c .sounding)) (cornersOf tk) q (sounding-in tk (checked tc tk (accepted→ tc tk clearance ok .0) .soundings)) t
 
   odd-placed : (e : CellEdge) → T (isEdge (surveyOf tc tk clearance .cells) (e .axis) (e .low) (e .level)) → T (isOdd (surveyOf tc tk clearance) e)
-      → Placed (cornersOf tk) clearance e
+      → PlaceByEnds clearance e (dryCorner (cornersOf tk) clearance e) (wetCorner (cornersOf tk) clearance e) (spotOn (cornersOf tk) clearance e)
   unfolding surveyOf
   odd-placed e t o =
       let s = surveyOf tc tk clearance in
@@ -93,6 +93,6 @@ module _ (tc tk : List ℕ) (clearance : Float) (ok : T (accepted tc tk clearanc
       odd-placed e (undivided→ (s .cells) (e .axis) (e .low) (e .level) u .0) odd .stays
 
 -- request 2 of document 02, of places
-pub all-placed : AllPlaced
-unfolding AllPlaced surveyOf
-all-placed tc tk clearance e ok = odd-placed tc tk clearance ok e
+pub places-by-ends : PlacesByEnds
+unfolding PlacesByEnds surveyOf
+places-by-ends tc tk clearance e ok = odd-placed tc tk clearance ok e

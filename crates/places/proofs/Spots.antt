@@ -1,28 +1,28 @@
--- The place of an odd edge, from what is known of its moving coordinate: one of its corners is dry and the other is wet, and t and the place are as request 2 of
--- document 02 says (`Placed`).
+-- The place of an odd edge, from what is known of its moving coordinate: one end is dry and the other is wet, and t and the place are as request 2 of
+-- document 02 says (`PlaceByEnds`).
 -- Assumes nothing.
 use Prim.Native.Nat.{ℕ, _+_, _^_, _≤_}
-use mathlib.Core.Path.{_≡_, refl, sym, ap, _∙_, subst}
+use mathlib.Core.Path.{_≡_, refl, sym, ap, _∙_}
 use mathlib.Core.Logic.{_⊎_, inl, inr}
 use mathlib.Core.Bool.{Bool, true, false, not, Bool·beq, true≢false}
 use mathlib.Core.List.{List}
 use lib.Dec.{T}
 use lib.Pow.{pow-pos}
-use lib.Ieee.{Float, inf, fin, binary32, le, eq}
+use lib.Ieee.{Float, inf, fin, binary32}
 use Rattle.base.specs.Lists.{all}
 use Rattle.base.specs.Grid.{Place, Axis, X, Y, Z, along, put}
 use Rattle.base.proofs.Tests.{→and}
 use Rattle.base.proofs.Places.{along-put, put-along}
 use Rattle.rounding.proofs.Order.{Between}
 use Rattle.rounding.proofs.Rounds.{Bare, whole-bare}
-use Rattle.rounding.proofs.Parts.{at-most-between, at-most-zero}
+use Rattle.rounding.proofs.Parts.{at-most-between, at-most-zero, Moved}
 use Rattle.rules.specs.Survey.{placeOf, cornerAt, wet, wetAt}
 use Rattle.rules.specs.Edges.{CellEdge, upperEnd, odd, float, fraction, moving, Spot, spot, spotOn, coordinate, OnEdge}
 use Rattle.rules.specs.Outputs.{inRange, coordinates}
-use Rattle.rules.specs.AwashPlaces.{dryCorner, wetCorner, fractionOn, cornerSpot, unsigned, Placed}
+use Rattle.rules.specs.AwashPlaces.{dryCorner, wetCorner, cornerSpot, unsigned, PlaceByEnds}
 use Rattle.rules.specs.declared.Corner.{Corner}
-use Rattle.places.proofs.Reckoned.{corner-place}
-use Rattle.places.proofs.Bound.{Sounding, Ends, fraction-part, fraction-none, Bounded, up-bounded, down-bounded}
+use Rattle.places.proofs.Reckoned.{way, corner-place}
+use Rattle.places.proofs.Bound.{Sounding, Ends, fraction-part, fraction-zero, way-zero, up-moved, down-moved}
 
 -- ---- spots
 
@@ -32,7 +32,7 @@ coordinate-spot X v p = refl
 coordinate-spot Y v p = refl
 coordinate-spot Z v p = refl
 
--- a corner at a place, in floats, is the spot with the place's coordinate on an axis
+-- the spot with the whole coordinate n on an axis is the corner at the place with n there
 corner-spot : (a : Axis) (n : ℕ) (p : Place) (c : Corner) → put a n p ≡ placeOf c → spot a (float n) p ≡ cornerSpot c
 unfolding spot cornerSpot
 corner-spot X n p c e = λ i. record { x = float (e i .x); y = float (e i .y); z = float (e i .z) }
@@ -82,37 +82,42 @@ module _ (corners : List Corner) (clearance : Float) (e : CellEdge) where
   abbrev high : ℕ
   high = along (e .axis) (e .low) + 2 ^ e .level
 
-  -- the moving coordinate, by the corners at the dry and the wet end
+  -- length × t, and the moving coordinate, by the corners at the dry and the wet end
+  abbrev by : Corner → Corner → Float
+  by dry far = way clearance (2 ^ e .level) dry far
+
   abbrev moved : Corner → Corner → Float
   moved dry far = moving clearance (e .axis) (2 ^ e .level) dry far
 
-  on-edge : (v : Float) → Between binary32 low high v → OnEdge e (spot (e .axis) v (e .low))
+  between-on-edge : (v : Float) → Between binary32 low high v → OnEdge e (spot (e .axis) v (e .low))
   unfolding OnEdge float
-  on-edge v b = rw (coordinate-spot (e .axis) v (e .low), along-put (e .axis) high (e .low)) (b .0, b .1, refl)
+  between-on-edge v b = rw (coordinate-spot (e .axis) v (e .low), along-put (e .axis) high (e .low)) (b .0, b .1, refl)
 
-  placed-by : (dry far : Corner) (n : ℕ) → dryCorner corners clearance e ≡ dry → wetCorner corners clearance e ≡ far
-      → spotOn corners clearance e ≡ spot (e .axis) (moved dry far) (e .low) → put (e .axis) n (e .low) ≡ placeOf dry
-      → Ends clearance dry far → Bounded clearance dry low high n (moved dry far) → Placed corners clearance e
-  unfolding fractionOn float
-  placed-by dry far n is-dry is-wet is at o r =
-      let t : fractionOn corners clearance e ≡ fraction clearance dry far = λ i. fraction clearance (is-dry i) (is-wet i) in
-      let part = at-most-between binary32 1 (fraction clearance dry far) (pow-pos 24) (fraction-part clearance dry far o) in
+  by-ends : high ≤ 2 ^ 24 → (dry far : Corner) → Ends clearance dry far → (n : ℕ) → put (e .axis) n (e .low) ≡ placeOf dry
+      → Moved binary32 low high n (by dry far) (moved dry far) → PlaceByEnds clearance e dry far (spot (e .axis) (moved dry far) (e .low))
+  unfolding float
+  by-ends fit dry far o n at m =
+      let t = fraction clearance dry far in
+      let part = at-most-between binary32 1 t (pow-pos 24) (fraction-part clearance dry far o) in
       record {
-        formula = is ∙ sym (λ i. spot (e .axis) (moved (is-dry i) (is-wet i)) (e .low));
-        at-least = subst (λ x. T (le (float 0) x)) (sym t) (part .0);
-        at-most = subst (λ x. T (le x (float 1))) (sym t) (part .1);
-        awash = λ equal.
-            let same : T (eq (dry .sounding) clearance) = subst (λ c. T (eq (c .sounding) clearance)) is-dry equal in (
-              subst (λ x. T (eq x (float 0))) (sym t) (at-most-zero binary32 _ (fraction-none clearance dry far o same)),
-              is ∙ ap (λ v. spot (e .axis) v (e .low)) (r .still same) ∙ corner-spot (e .axis) n (e .low) dry at ∙ ap cornerSpot (sym is-dry),
-            );
-        stays = subst (OnEdge e) (sym is) (on-edge (moved dry far) (r .between));
-        no-minus = subst (λ s. T (all unsigned (coordinates s))) (sym is) (spot-unsigned (e .axis) (moved dry far) (e .low) (bare-unsigned (moved dry far) (r .bare)));
+        is-dry = o .is-dry;
+        is-wet = o .is-wet;
+        formula = refl;
+        at-least = part .0;
+        at-most = part .1;
+        awash = λ equal. (
+          at-most-zero binary32 t (fraction-zero clearance dry far o equal),
+          ap (λ v. spot (e .axis) v (e .low)) (m .still (way-zero clearance (e .axis) low (2 ^ e .level) dry far fit o equal))
+              ∙ corner-spot (e .axis) n (e .low) dry at,
+        );
+        stays = between-on-edge (moved dry far) (m .between);
+        no-minus = spot-unsigned (e .axis) (moved dry far) (e .low) (bare-unsigned (moved dry far) (m .bare));
       }
 
   pub placed : high ≤ 2 ^ 24 → T (inRange clearance) → Sounding (lower .sounding) → Sounding (upper .sounding)
-      → T (odd (wetAt corners clearance) (e .axis) (e .low) (e .level)) → Placed corners clearance e
-  unfolding odd wetAt
+      → T (odd (wetAt corners clearance) (e .axis) (e .low) (e .level))
+      → PlaceByEnds clearance e (dryCorner corners clearance e) (wetCorner corners clearance e) (spotOn corners clearance e)
+  unfolding odd wetAt dryCorner wetCorner spotOn
   placed fit c l u t = go (one-wet (wet clearance lower) (wet clearance upper) t)
     where
       at-lower : low ≡ along (e .axis) (placeOf lower)
@@ -122,14 +127,14 @@ module _ (corners : List Corner) (clearance : Float) (e : CellEdge) where
       at-upper = sym (along-put (e .axis) _ (e .low)) ∙ ap (along (e .axis)) (sym (corner-place corners (upperEnd e)))
 
       go : ((wet clearance lower ≡ false) × (wet clearance upper ≡ true)) ⊎ ((wet clearance lower ≡ true) × (wet clearance upper ≡ false))
-          → Placed corners clearance e
+          → PlaceByEnds clearance e (dryCorner corners clearance e) (wetCorner corners clearance e) (spotOn corners clearance e)
       go (inl (p, q)) =
           let o : Ends clearance lower upper = record { clear = c; dry-end = l; wet-end = u; is-dry = p; is-wet = q } in
-          placed-by lower upper low (unfold dryCorner in rw q) (unfold wetCorner in rw q) (unfold spotOn in rw q)
-          (put-along (e .axis) (e .low) ∙ sym (corner-place corners (e .low))) o
-          (up-bounded clearance (e .axis) low (2 ^ e .level) lower upper fit o (pow-pos (e .level)) at-lower at-upper)
+          rw q
+          (by-ends fit lower upper o low (put-along (e .axis) (e .low) ∙ sym (corner-place corners (e .low)))
+          (up-moved clearance (e .axis) low (2 ^ e .level) lower upper fit o (pow-pos (e .level)) at-lower at-upper))
       go (inr (p, q)) =
           let o : Ends clearance upper lower = record { clear = c; dry-end = u; wet-end = l; is-dry = q; is-wet = p } in
-          placed-by upper lower high (unfold dryCorner in rw q) (unfold wetCorner in rw q) (unfold spotOn in rw q)
-          (sym (corner-place corners (upperEnd e))) o
-          (down-bounded clearance (e .axis) low (2 ^ e .level) upper lower fit o at-upper at-lower)
+          rw q
+          (by-ends fit upper lower o high (sym (corner-place corners (upperEnd e)))
+          (down-moved clearance (e .axis) low (2 ^ e .level) upper lower fit o at-upper at-lower))

@@ -54,18 +54,6 @@ ltb-same a b c d p q = same (ltb a b) (ltb c d) (λ t. lt→ltb c d (p (ltb→lt
 eqb-of : (a b : ℕ) → a ≡ b → T (eqb a b)
 eqb-of a b h = eq→eqb h
 
-or-is : (x y w : Bool) → (T x → T w) → (T y → T w) → (T w → T x ⊎ T y) → (x || y) ≡ w
-or-is x y w p q r = same (x || y) w (to x y p q) (λ t. from x y (r t))
-  where
-    to : (x y : Bool) → (T x → T w) → (T y → T w) → T (x || y) → T w
-    to true y p q t = p tt
-    to false y p q t = q t
-
-    from : (x y : Bool) → T x ⊎ T y → T (x || y)
-    from true y c = tt
-    from false y (inl t) = absurd t
-    from false y (inr t) = t
-
 -- each comparison is the test of its numbers
 lt-is : (x y : Float) → T (finite x) → T (finite y)
     → lt x y ≡ ltb (hi x * den y + lo y * den x) (hi y * den x + lo x * den y)
@@ -127,6 +115,13 @@ le-is : (x y : Float) → T (finite x) → T (finite y)
 unfolding le
 le-is x y p q = ap₂ (λ a b. a || b) (lt-is x y p q) (eq-is x y p q) ∙ lt-or-eq (hi x * den y + lo y * den x) (hi y * den x + lo x * den y)
   where
+    or-is : (x y w : Bool) → (T x → T w) → (T y → T w) → (T w → T x ⊎ T y) → (x || y) ≡ w
+    or-is true y w p q r = same true w p (λ t. tt)
+    or-is false y w p q r = same y w q (λ t. right (r t))
+      where
+        right : ⊥ ⊎ T y → T y
+        right (inr t) = t
+
     lt-or-eq : (a b : ℕ) → (ltb a b || eqb a b) ≡ leb a b
     lt-or-eq a b =
         or-is (ltb a b) (eqb a b) (leb a b) (λ t. omega (arith, ltb→lt, le→leb)) (λ t. le→leb a b (le-of-eq (eqb→eq a b t)))

@@ -66,8 +66,8 @@ module _ (f : Format) (K : ℕ) (c d w : Float) (i : Within f K c d w) where
       div-at-most f (sub f c d) D 1 (pow-pos (prec f)) (N .0) (N .1) P (omega (arith, N .2))
 
   -- where c equals d, c - d is a zero
-  pub part-none : Eq d c → AtMost (div f (sub f c d) (sub f w d)) 0 1
-  part-none e =
+  pub part-zero : Eq d c → AtMost (div f (sub f c d) (sub f w d)) 0 1
+  part-zero e =
       let (g, a, r) = sub-rounds f c d (i .c-finite) (i .d-finite) (i .d-c) in
       let (k, b, is, P) = gap-positive in
       let N = rounded-whole f (sub f c d) g (den c * den d) 0 (mul-pos (den-pos c) (den-pos d)) r (omega arith) (omega arith) in

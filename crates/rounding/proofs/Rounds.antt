@@ -125,7 +125,7 @@ sub-rounds f (fin true m e) (fin true n d) p q h =
     let b = n * up d * down e in
     (b - a, omega arith, plain f _ (b - a) (down e * down d) (subtracted f true m e true n d ∙ sum-neg f a b (down e * down d) (omega arith)))
 
--- the other operations, at operands that are not below zero: `lo x ≡ 0`
+-- to a number without a sign, y not below zero: `lo y ≡ 0`
 pub add-bare : (f : Format) (x y : Float) → T (finite x) → Bare x → T (finite y) → lo y ≡ 0
     → add f x y ≡ round f false (hi x * den y + hi y * den x) (den x * den y)
 add-bare f (fin true m e) y p s q k = absurd (true≢false s)
@@ -137,6 +137,7 @@ add-bare f (fin false m e) (fin true n d) p s q k =
     let same : a - b ≡ a + 0 * down e = omega arith in
     added f false m e true n d ∙ sum-unlike f a b (down e * down d) (omega arith) ∙ ap (λ (i : ℕ). round f false i (down e * down d)) same
 
+-- the other operations, at operands that are not below zero
 pub mul-rounds : (f : Format) (x y : Float) → T (finite x) → T (finite y) → lo x ≡ 0 → lo y ≡ 0 → Rounds f (mul f x y) (hi x * hi y) (den x * den y)
 unfolding mul
 mul-rounds f (fin false m e) (fin false n d) p q h k = plain f _ (m * up e * (n * up d)) (down e * down d) refl

@@ -4,31 +4,29 @@ use Prim.Native.Nat.{ℕ}
 use mathlib.Core.List.{List, [], _∷_, _++_}
 use lib.ListN.{replicate}
 use Rattle.base.specs.Grid.{X}
-use Rattle.rules.proofs.Surveys.{place, at, minusZero, one, minusOne, two, three, leaf, split}
+use Rattle.rules.proofs.Surveys.{place, Soundings, at, minusZero, one, minusOne, two, three, greatest, least, wetAtOnly, leaf, split}
 use Rattle.rules.proofs.Surveys.{drawing, asking, reckoning, Example, example, exampleAt, untouched, Right, right, Each, each}
-use Rattle.rules.proofs.Starred.{f64, f512, f1024, eight, twins}
+use Rattle.rules.proofs.Starred.{f64, f128, f384, f512, f1024, eight, twins}
 
--- bits of floats: the least number above 0, and the greatest below it; a quarter; the greatest sounding, and the least
-abbrev pub aboveZero : ℕ
+-- bits of floats: the least number above 0, the greatest below it, a quarter
+abbrev aboveZero : ℕ
 aboveZero = 1
 
-abbrev pub belowZero : ℕ
+abbrev belowZero : ℕ
 belowZero = 0x8000_0001
 
-abbrev pub quarter : ℕ
+abbrev quarter : ℕ
 quarter = 0x3e80_0000
 
-abbrev pub greatest : ℕ
-greatest = 0x4980_0000
-
-abbrev pub least : ℕ
-least = 0xc980_0000
-
 -- one split, the centre wet and every other corner just awash: each of the six points lies at the dry end
-abbrev pub centreAwash : ℕ → ℕ → ℕ → Example
+abbrev centreAwash : ℕ → ℕ → ℕ → Example
 centreAwash clearance wet dry =
     exampleAt clearance split (at (place 512 512 512 ∷ []) wet dry) (drawing 18 24)
     (0 ∷ 6 ∷ 8 ∷ 0 ∷ f512 ∷ f512 ∷ f1024 ∷ f512 ∷ f512 ∷ f512 ∷ 0 ∷ f512 ∷ f512 ∷ f1024 ∷ f512 ∷ f512 ∷ f512 ∷ 0 ∷ f512 ∷ f512 ∷ f1024 ∷ eight)
+
+-- on the edge along x at the origin, wet 3 at 256 and at 512, and dry -1 at 0
+abbrev wetPart : Soundings
+wetPart = at (place 256 0 0 ∷ place 512 0 0 ∷ []) three minusOne
 
 unfoldable pub awash : List Example
 unfolding eight twins
@@ -49,10 +47,14 @@ awash =
     example leaf (at (place 1024 0 0 ∷ []) one 0) (reckoning X (place 0 0 0) 10) (1 ∷ 1 ∷ 1 ∷ 0 ∷ 0 ∷ 0 ∷ 0 ∷ 0 ∷ 0 ∷ 0 ∷ []) ∷
     example leaf (at (place 0 0 0 ∷ []) one 0) (reckoning X (place 0 0 0) 10) (1 ∷ 1 ∷ 1 ∷ 0 ∷ f1024 ∷ 0 ∷ 0 ∷ f1024 ∷ 0 ∷ 0 ∷ []) ∷
     exampleAt minusZero leaf (at (place 1024 0 0 ∷ []) one 0) (reckoning X (place 0 0 0) 10) (1 ∷ 1 ∷ 1 ∷ minusZero ∷ 0 ∷ 0 ∷ 0 ∷ 0 ∷ 0 ∷ 0 ∷ []) ∷
-    -- dry -1 at 0, wet 3 at 256 and at 512: the short edge, and the divided edge above it
-    example twins (at (place 256 0 0 ∷ place 512 0 0 ∷ []) three minusOne) (reckoning X (place 0 0 0) 8) (1 ∷ 1 ∷ 1 ∷ quarter ∷ 0 ∷ 0 ∷ 0 ∷ f64 ∷ 0 ∷ 0 ∷ []) ∷
-    example twins (at (place 256 0 0 ∷ place 512 0 0 ∷ []) three minusOne) (reckoning X (place 0 0 0) 9)
-    (1 ∷ 1 ∷ 1 ∷ quarter ∷ 0 ∷ 0 ∷ 0 ∷ 0x4300_0000 ∷ 0 ∷ 0 ∷ []) ∷ []
+    -- by the least number above the clearance, t is 1
+    example leaf (at (place 0 0 0 ∷ []) aboveZero minusOne) (reckoning X (place 0 0 0) 10) (1 ∷ 1 ∷ 1 ∷ one ∷ f1024 ∷ 0 ∷ 0 ∷ 0 ∷ 0 ∷ 0 ∷ []) ∷
+    -- dry -1 at 0, wet 3 at 256 and at 512: the short edge, and the divided one above it, whose point is the short one's, at 64
+    example twins wetPart (reckoning X (place 0 0 0) 8) (1 ∷ 1 ∷ 1 ∷ quarter ∷ 0 ∷ 0 ∷ 0 ∷ f64 ∷ 0 ∷ 0 ∷ []) ∷
+    example twins wetPart (reckoning X (place 0 0 0) 9) (1 ∷ 1 ∷ 1 ∷ quarter ∷ 0 ∷ 0 ∷ 0 ∷ f128 ∷ 0 ∷ 0 ∷ []) ∷
+    example twins wetPart (asking 0 (place 0 0 0) 512) (0 ∷ 0 ∷ f64 ∷ 0 ∷ 0 ∷ 2 ∷ []) ∷
+    -- a divided edge with its lower end awash: its point lies on the upper half, whose lower end is -1
+    example twins (λ p. at (place 0 0 0 ∷ []) 0 (wetAtOnly (place 512 0 0 ∷ []) p) p) (asking 0 (place 0 0 0) 512) (0 ∷ 0 ∷ f384 ∷ 0 ∷ 0 ∷ 2 ∷ []) ∷ []
 
 pub awash-right : Each Right awash
 unfolding right awash

@@ -7,7 +7,8 @@ use lib.ListN.{replicate}
 use Rattle.base.specs.Lists.{collect, count}
 use Rattle.base.specs.Grid.{Place}
 use Rattle.rules.specs.Survey.{cellsOf}
-use Rattle.rules.proofs.Surveys.{cellTable, cornerTable, place, Soundings, at, one, minusOne, two, three, wetAtOnly, Shape, shape, leaves, leaf, split}
+use Rattle.rules.proofs.Surveys.{cellTable, cornerTable, place, Soundings, at, one, minusOne, two, three, greatest, least, wetAtOnly}
+use Rattle.rules.proofs.Surveys.{Shape, shape, leaves, leaf, split}
 use Rattle.rules.proofs.Surveys.{checking, drawing, asking, Example, example, exampleAt, untouched, Right, right, Each, each}
 use Rattle.rules.proofs.Starred.{f64, f128, f256, f512, centre, twins}
 
@@ -121,12 +122,12 @@ refusals =
     -- 7: at one corner a sounding below the least, or infinite; the least, -1,048,576, passes
     refused 7 leaf (at (place 1024 1024 1024 ∷ []) minusBeyond one) ∷
     refused 7 leaf (at (place 1024 1024 1024 ∷ []) infinity one) ∷
-    example leaf (λ p. 0xc980_0000) (drawing 3 3) (0 ∷ 0 ∷ 0 ∷ untouched 3 3) ∷
+    example leaf (λ p. least) (drawing 3 3) (0 ∷ 0 ∷ 0 ∷ untouched 3 3) ∷
     -- 8: a clearance that is not a number, above the greatest, below the least; 1,048,576 passes
     refusedAt notANumber 8 leaf oneWet ∷
     refusedAt beyond 8 leaf oneWet ∷
     refusedAt minusBeyond 8 leaf oneWet ∷
-    exampleAt 0x4980_0000 leaf oneWet (drawing 3 3) (0 ∷ 0 ∷ 0 ∷ untouched 3 3) ∷
+    exampleAt greatest leaf oneWet (drawing 3 3) (0 ∷ 0 ∷ 0 ∷ untouched 3 3) ∷
     -- 9, 10: a point slice, then a triangle slice, that is too short by one element
     example leaf oneWet (drawing 8 3) (9 ∷ 3 ∷ 1 ∷ untouched 8 3) ∷
     example leaf oneWet (drawing 9 2) (10 ∷ 3 ∷ 1 ∷ untouched 9 2) ∷

@@ -4,7 +4,8 @@ use Prim.Native.Nat.{ℕ}
 use mathlib.Core.Bool.{true, false}
 use mathlib.Core.List.{List, [], _∷_, _++_}
 use Rattle.rules.specs.Survey.{cellsOf}
-use Rattle.rules.proofs.Surveys.{cellTable, place, Soundings, at, one, minusZero, minusOne, three, wetAtOnly, Shape, shape, leaves, leaf, split}
+use Rattle.rules.proofs.Surveys.{cellTable, place, Soundings, at, minusZero, one, minusOne, three, greatest, wetAtOnly}
+use Rattle.rules.proofs.Surveys.{Shape, shape, leaves, leaf, split}
 use Rattle.rules.proofs.Surveys.{drawing, asking, Example, example, faceAlone, oldFloat, oldNumber, untouched, Right, right, Each, each}
 
 -- the bits of some coordinates
@@ -68,13 +69,13 @@ starred =
     0 ∷ 2 ∷ 4 ∷ 1 ∷ 3 ∷ 5 ∷ []) ∷
     -- dry -1 at 0, wet 3 at 256
     example twins (at (place 256 0 0 ∷ []) three minusOne) (asking 0 (place 0 0 0) 256) (0 ∷ 0 ∷ f64 ∷ 0 ∷ 0 ∷ 2 ∷ []) ∷
-    -- sounding 0 at clearance 0, and sounding -0: dry by document 02, request 2
+    -- sounding 0 at clearance 0, and sounding -0: dry (request 2)
     example leaf (at (place 0 0 0 ∷ []) 0 minusOne) (drawing 9 3) (0 ∷ 0 ∷ 0 ∷ untouched 9 3) ∷
     example leaf (at (place 0 0 0 ∷ []) minusZero minusOne) (drawing 9 3) (0 ∷ 0 ∷ 0 ∷ untouched 9 3) ∷
     -- nine records, only record 3 split, entry 1
     example (record { cells = cellTable (0 ∷ 0 ∷ 0 ∷ 1 ∷ leaves 5); corners = split .corners }) centre (drawing 18 24) (3 ∷ 0 ∷ 0 ∷ untouched 18 24) ∷
     -- soundings 1,048,576, then 1,048,576.125, then not a number
-    example leaf (λ p. 0x4980_0000) (drawing 0 0) (0 ∷ 0 ∷ 0 ∷ []) ∷
+    example leaf (λ p. greatest) (drawing 0 0) (0 ∷ 0 ∷ 0 ∷ []) ∷
     example leaf (λ p. 0x4980_0001) (drawing 0 0) (7 ∷ 0 ∷ 0 ∷ []) ∷
     example leaf (λ p. 0x7fc0_0000) (drawing 0 0) (7 ∷ 0 ∷ 0 ∷ []) ∷
     -- an enquiry with axis 3
@@ -84,7 +85,7 @@ starred =
     (0 ∷ 4 ∷ 4 ∷ f128 ∷ f512 ∷ f512 ∷ f384 ∷ f512 ∷ f512 ∷ f256 ∷ f384 ∷ f512 ∷ f256 ∷ f512 ∷ f384 ∷
     0 ∷ 1 ∷ 3 ∷ 0 ∷ 2 ∷ 1 ∷ 0 ∷ 3 ∷ 2 ∷ 1 ∷ 2 ∷ 3 ∷ []) ∷ []
 
--- Each starred survey gives what document 01 says, with the requests of document 02 that are in.
+-- Each starred survey gives what document 01 says.
 pub starred-right : Each Right starred
 unfolding right starred
 starred-right = each starred tt

@@ -1,8 +1,8 @@
 -- Document 02, request 2, "Awash is dry": "Places keep their formula; t may now be 0 without rounding, and is never above 1." The formula is that of
--- Edges.antt. What is stated here of t and of places is proved as `all-placed` in places/proofs/OnEdge.antt.
+-- Edges.antt. What is stated here of t and of places is proved as `places-by-ends` in places/proofs/OnEdge.antt.
 use Prim.Native.Nat.{ℕ, _^_}
 use mathlib.Core.Path.{_≡_}
-use mathlib.Core.Bool.{Bool, true, not, cond}
+use mathlib.Core.Bool.{Bool, true, false, not, cond}
 use mathlib.Core.List.{List}
 use lib.Dec.{T}
 use lib.Ieee.{Float, nan, inf, fin, eq, le}
@@ -29,11 +29,6 @@ wetCorner corners clearance e =
     let upper = cornerAt corners (upperEnd e) in
     cond (wet clearance upper) upper lower
 
--- t of an odd edge
-unfoldable pub fractionOn : List Corner → Float → CellEdge → Float
-unfolding fraction dryCorner wetCorner
-fractionOn corners clearance e = fraction clearance (dryCorner corners clearance e) (wetCorner corners clearance e)
-
 -- the place of a corner in floats
 unfoldable pub cornerSpot : Corner → Spot
 unfolding float
@@ -45,25 +40,28 @@ unsigned nan = true
 unsigned (inf minus) = not minus
 unsigned (fin minus m e) = not minus
 
--- What is said of the place of an odd edge.
-pub record Placed (corners : List Corner) (clearance : Float) (e : CellEdge) : Type 0 where
-  -- places keep their formula: reckoned from the dry end, by this t
-  pub formula : spotOn corners clearance e
-      ≡ spot (e .axis) (moving clearance (e .axis) (2 ^ e .level) (dryCorner corners clearance e) (wetCorner corners clearance e)) (e .low)
+-- What is said of an odd edge, of the corners at its dry and its wet end, and of a place on it; t is `fraction clearance dry far`.
+pub record PlaceByEnds (clearance : Float) (e : CellEdge) (dry far : Corner) (place : Spot) : Type 0 where
+  pub is-dry : wet clearance dry ≡ false
+  pub is-wet : wet clearance far ≡ true
+  -- places keep their formula
+  pub formula : place ≡ spot (e .axis) (moving clearance (e .axis) (2 ^ e .level) dry far) (e .low)
   -- t is at least 0 and at most 1
-  pub at-least : T (le (float 0) (fractionOn corners clearance e))
-  pub at-most : T (le (fractionOn corners clearance e) (float 1))
+  pub at-least : T (le (float 0) (fraction clearance dry far))
+  pub at-most : T (le (fraction clearance dry far) (float 1))
   -- where the dry sounding equals the clearance, t is 0 and the place is the dry end
-  pub awash : T (eq (dryCorner corners clearance e .sounding) clearance)
-      → T (eq (fractionOn corners clearance e) (float 0)) × (spotOn corners clearance e ≡ cornerSpot (dryCorner corners clearance e))
+  pub awash : T (eq (dry .sounding) clearance) → T (eq (fraction clearance dry far) (float 0)) × (place ≡ cornerSpot dry)
   -- the place never leaves the edge
-  pub stays : OnEdge e (spotOn corners clearance e)
+  pub stays : OnEdge e place
   -- no coordinate is -0, though t is where the clearance is -0 and the dry sounding +0
-  pub no-minus : T (all unsigned (coordinates (spotOn corners clearance e)))
+  pub no-minus : T (all unsigned (coordinates place))
 
--- The sentence: this holds of every odd edge, divided or not, of every accepted survey.
-unfoldable pub AllPlaced : Type 0
-unfolding cellsOf isEdge accepted surveyOf cornersOf
-AllPlaced =
+-- The sentence, of every odd edge of every accepted survey, by the edge's own two ends. Of an undivided edge it is about the place of the point that the edge
+-- carries; a divided one has the point of its odd half, which lies on that half.
+unfoldable pub PlacesByEnds : Type 0
+unfolding cellsOf isEdge accepted surveyOf cornersOf dryCorner wetCorner spotOn
+PlacesByEnds =
     (tc tk : List ℕ) (clearance : Float) (e : CellEdge) → T (accepted tc tk clearance) → T (isEdge (cellsOf tc) (e .axis) (e .low) (e .level)) →
-    T (isOdd (surveyOf tc tk clearance) e) → Placed (cornersOf tk) clearance e
+    T (isOdd (surveyOf tc tk clearance) e) →
+    let corners = cornersOf tk in
+    PlaceByEnds clearance e (dryCorner corners clearance e) (wetCorner corners clearance e) (spotOn corners clearance e)

@@ -1,4 +1,4 @@
-//! Surveys to draw, and plain readings of document 01 to judge a drawing by.
+//! Surveys to draw, and plain readings of the documents to judge a drawing by.
 //!
 //! - [`document`]: the surveys of document 01 and a few small ones, with what is known of their drawings.
 //! - [`generate`]: random lawful surveys, each from one seed.
