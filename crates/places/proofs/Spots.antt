@@ -82,10 +82,7 @@ module _ (corners : List Corner) (clearance : Float) (e : CellEdge) where
   abbrev high : ℕ
   high = along (e .axis) (e .low) + 2 ^ e .level
 
-  -- length × t, and the moving coordinate, by the corners at the dry and the wet end
-  abbrev by : Corner → Corner → Float
-  by dry far = way clearance (2 ^ e .level) dry far
-
+  -- the moving coordinate, by the corners at the dry and the wet end
   abbrev moved : Corner → Corner → Float
   moved dry far = moving clearance (e .axis) (2 ^ e .level) dry far
 
@@ -94,7 +91,8 @@ module _ (corners : List Corner) (clearance : Float) (e : CellEdge) where
   between-on-edge v b = rw (coordinate-spot (e .axis) v (e .low), along-put (e .axis) high (e .low)) (b .0, b .1, refl)
 
   by-ends : high ≤ 2 ^ 24 → (dry far : Corner) → Ends clearance dry far → (n : ℕ) → put (e .axis) n (e .low) ≡ placeOf dry
-      → Moved binary32 low high n (by dry far) (moved dry far) → PlaceByEnds clearance e dry far (spot (e .axis) (moved dry far) (e .low))
+      → Moved binary32 low high n (way clearance (2 ^ e .level) dry far) (moved dry far)
+      → PlaceByEnds clearance e dry far (spot (e .axis) (moved dry far) (e .low))
   unfolding float
   by-ends fit dry far o n at m =
       let t = fraction clearance dry far in

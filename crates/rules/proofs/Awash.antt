@@ -4,8 +4,8 @@ use Prim.Native.Nat.{ℕ}
 use mathlib.Core.List.{List, [], _∷_, _++_}
 use lib.ListN.{replicate}
 use Rattle.base.specs.Grid.{X}
-use Rattle.rules.proofs.Surveys.{place, Soundings, at, minusZero, one, minusOne, two, three, greatest, least, wetAtOnly, leaf, split}
-use Rattle.rules.proofs.Surveys.{drawing, asking, reckoning, Example, example, exampleAt, untouched, Right, right, Each, each}
+use Rattle.rules.proofs.Surveys.{place, Soundings, at, minusZero, one, minusOne, two, three, greatest, least, notANumber, wetAtOnly}
+use Rattle.rules.proofs.Surveys.{leaf, split, drawing, asking, reckoning, Example, example, exampleAt, untouched, Right, right, Each, each}
 use Rattle.rules.proofs.Starred.{f64, f128, f384, f512, f1024, eight, twins}
 
 -- bits of floats: the least number above 0, the greatest below it, a quarter
@@ -47,6 +47,8 @@ awash =
     example leaf (at (place 1024 0 0 ∷ []) one 0) (reckoning X (place 0 0 0) 10) (1 ∷ 1 ∷ 1 ∷ 0 ∷ 0 ∷ 0 ∷ 0 ∷ 0 ∷ 0 ∷ 0 ∷ []) ∷
     example leaf (at (place 0 0 0 ∷ []) one 0) (reckoning X (place 0 0 0) 10) (1 ∷ 1 ∷ 1 ∷ 0 ∷ f1024 ∷ 0 ∷ 0 ∷ f1024 ∷ 0 ∷ 0 ∷ []) ∷
     exampleAt minusZero leaf (at (place 1024 0 0 ∷ []) one 0) (reckoning X (place 0 0 0) 10) (1 ∷ 1 ∷ 1 ∷ minusZero ∷ 0 ∷ 0 ∷ 0 ∷ 0 ∷ 0 ∷ 0 ∷ []) ∷
+    -- an even edge, both ends awash: 0 / 0 is no t, and there is no place
+    example leaf (λ p. 0) (reckoning X (place 0 0 0) 10) (1 ∷ 1 ∷ 0 ∷ notANumber ∷ f1024 ∷ 0 ∷ 0 ∷ notANumber ∷ 0 ∷ 0 ∷ []) ∷
     -- by the least number above the clearance, t is 1
     example leaf (at (place 0 0 0 ∷ []) aboveZero minusOne) (reckoning X (place 0 0 0) 10) (1 ∷ 1 ∷ 1 ∷ one ∷ f1024 ∷ 0 ∷ 0 ∷ 0 ∷ 0 ∷ 0 ∷ []) ∷
     -- dry -1 at 0, wet 3 at 256 and at 512: the short edge, and the divided one above it, whose point is the short one's, at 64

@@ -7,7 +7,7 @@ use lib.ListN.{replicate}
 use Rattle.base.specs.Lists.{collect, count}
 use Rattle.base.specs.Grid.{Place}
 use Rattle.rules.specs.Survey.{cellsOf}
-use Rattle.rules.proofs.Surveys.{cellTable, cornerTable, place, Soundings, at, one, minusOne, two, three, greatest, least, wetAtOnly}
+use Rattle.rules.proofs.Surveys.{cellTable, cornerTable, place, Soundings, at, one, minusOne, two, three, greatest, least, notANumber, wetAtOnly}
 use Rattle.rules.proofs.Surveys.{Shape, shape, leaves, leaf, split}
 use Rattle.rules.proofs.Surveys.{checking, drawing, asking, Example, example, exampleAt, untouched, Right, right, Each, each}
 use Rattle.rules.proofs.Starred.{f64, f128, f256, f512, centre, twins}
@@ -39,10 +39,7 @@ withCorners ps s = record { cells = s .cells; corners = ps }
 abbrev pub twice : List Place
 twice = place 0 0 0 ∷ place 0 0 0 ∷ []
 
--- bits of floats: not a number; 1,048,576.125, which is beyond the greatest sounding, and its opposite; infinity
-abbrev pub notANumber : ℕ
-notANumber = 0x7fc0_0000
-
+-- bits of floats: 1,048,576.125, which is beyond the greatest sounding, and its opposite; infinity
 abbrev pub beyond : ℕ
 beyond = 0x4980_0001
 

@@ -4,7 +4,7 @@ use Prim.Native.Nat.{ℕ}
 use mathlib.Core.Bool.{true, false}
 use mathlib.Core.List.{List, [], _∷_, _++_}
 use Rattle.rules.specs.Survey.{cellsOf}
-use Rattle.rules.proofs.Surveys.{cellTable, place, Soundings, at, minusZero, one, minusOne, three, greatest, wetAtOnly}
+use Rattle.rules.proofs.Surveys.{cellTable, place, Soundings, at, minusZero, one, minusOne, three, greatest, notANumber, wetAtOnly}
 use Rattle.rules.proofs.Surveys.{Shape, shape, leaves, leaf, split}
 use Rattle.rules.proofs.Surveys.{drawing, asking, Example, example, faceAlone, oldFloat, oldNumber, untouched, Right, right, Each, each}
 
@@ -77,7 +77,7 @@ starred =
     -- soundings 1,048,576, then 1,048,576.125, then not a number
     example leaf (λ p. greatest) (drawing 0 0) (0 ∷ 0 ∷ 0 ∷ []) ∷
     example leaf (λ p. 0x4980_0001) (drawing 0 0) (7 ∷ 0 ∷ 0 ∷ []) ∷
-    example leaf (λ p. 0x7fc0_0000) (drawing 0 0) (7 ∷ 0 ∷ 0 ∷ []) ∷
+    example leaf (λ p. notANumber) (drawing 0 0) (7 ∷ 0 ∷ 0 ∷ []) ∷
     -- an enquiry with axis 3
     example leaf centre (asking 3 (place 0 0 0) 1024) (11 ∷ []) ∷
     -- the twin survey

@@ -37,7 +37,7 @@ Soundings = Place → ℕ
 abbrev pub at : List Place → ℕ → ℕ → Soundings
 at ps v w p = cond (any (same p) ps) v w
 
--- bits of floats: -0, +1, -1, 2, 3; 1,048,576, the greatest sounding, and the least
+-- bits of floats: -0, +1, -1, 2, 3; 1,048,576, the greatest sounding, and the least; not a number
 abbrev pub minusZero : ℕ
 minusZero = 0x8000_0000
 
@@ -58,6 +58,9 @@ greatest = 0x4980_0000
 
 abbrev pub least : ℕ
 least = 0xc980_0000
+
+abbrev pub notANumber : ℕ
+notANumber = 0x7fc0_0000
 
 -- +1 at the wet places, -1 elsewhere
 abbrev pub wetAtOnly : List Place → Soundings
