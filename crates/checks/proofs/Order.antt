@@ -1,16 +1,16 @@
 -- The checks in their order: the first that applies gives its number.
 use Prim.Native.Nat.{ℕ, _%_, _≤_}
-use mathlib.Core.Path.{_≡_, sym, ap, _∙_}
-use mathlib.Core.Bool.{Bool, true, false, not, _||_, cond, true≢false}
-use mathlib.Core.List.{List, [], _∷_}
+use mathlib.Core.Path.{_≡_}
+use mathlib.Core.Bool.{Bool, true, false, not, _||_, true≢false}
+use mathlib.Core.List.{List}
 use lib.Dec.{eqb, ltb}
 use lib.ListN.{length}
 use lib.Ieee.{Float}
-use borrow.Author.Tests.{eq-eqb, ne-eqb, ltb-false}
+use borrow.Author.Tests.{ltb-false}
 use Rattle.base.specs.Lists.{any}
 use Rattle.rules.specs.Survey.{entries, cellsOf, cornersOf}
 use Rattle.rules.specs.Outputs.{badTable, entriesRight, rising, cornersRight, inRange, firstOf, surveyChecks, surveyRefusal, checks}
-use Rattle.octree.proofs.Accepted.{first-append}
+use Rattle.octree.proofs.Accepted.{refused-before, refused-last, refused-never}
 use Rattle.records.specs.Keys.{placesOf}
 use Rattle.cells.specs.Laid.{tooDeep}
 use Rattle.checks.proofs.Tables.{beyond}
@@ -66,17 +66,14 @@ module _ (tc tk : List ℕ) where
 
 -- the clearance is checked after the survey
 module _ (tc tk : List ℕ) (clearance : Float) (n : ℕ) (n-is : n ≡ surveyRefusal tc tk) where
-  checks-are : firstOf (checks tc tk clearance) ≡ cond (eqb n 0) (cond (not (inRange clearance)) 8 0) n
-  unfolding checks surveyRefusal
-  checks-are =
-      first-append (surveyChecks tc tk) ((8, not (inRange clearance)) ∷ []) (unfold surveyChecks in tt)
-      ∙ ap (λ m. cond (eqb m 0) (cond (not (inRange clearance)) 8 0) m) (sym n-is)
-
   pub survey-refused : (n ≡ 0 → ⊥) → n ≡ firstOf (checks tc tk clearance)
-  survey-refused z = sym (checks-are ∙ rw (ne-eqb n 0 z))
+  unfolding checks surveyRefusal
+  survey-refused = refused-before (surveyChecks tc tk) (unfold surveyChecks in tt) 8 (not (inRange clearance)) n n-is
 
   pub clearance-refused : n ≡ 0 → not (inRange clearance) ≡ true → 8 ≡ firstOf (checks tc tk clearance)
-  clearance-refused z e = sym (checks-are ∙ rw (eq-eqb n 0 z, e))
+  unfolding checks surveyRefusal
+  clearance-refused = refused-last (surveyChecks tc tk) (unfold surveyChecks in tt) 8 (not (inRange clearance)) n n-is
 
   pub nothing-refused : n ≡ 0 → not (inRange clearance) ≡ false → 0 ≡ firstOf (checks tc tk clearance)
-  nothing-refused z e = sym (checks-are ∙ rw (eq-eqb n 0 z, e))
+  unfolding checks surveyRefusal
+  nothing-refused = refused-never (surveyChecks tc tk) (unfold surveyChecks in tt) 8 (not (inRange clearance)) n n-is

@@ -3,6 +3,7 @@ pub mod Walk
 pub mod Loops
 pub mod Leaf
 pub mod Drawing
-pub mod Closing
+pub mod Inside
 pub mod Outside
+pub mod Closing
 pub mod Wrong

@@ -9,13 +9,13 @@ use lib.Dec.{T, eqb, ltb, nltb→le}
 use lib.ListN.{length, drop}
 use lib.Ieee.{Float}
 use Rattle.base.specs.Lists.{collect}
-use Rattle.base.proofs.Tests.{eq→eqb, true→, →true, →false, not-both}
+use Rattle.base.proofs.Tests.{eq→eqb, true→, →false}
 use Rattle.rules.specs.Survey.{cornersOf}
 use Rattle.rules.specs.Edges.{CellEdge, pointEdges, spotOn, OnEdge}
 use Rattle.rules.specs.Steps.{allTriangles}
-use Rattle.rules.specs.Outputs.{numbers, firstOf, checks, accepted, surveyOf, pointFloats, triangleNumbers, written, Drawing, draw}
+use Rattle.rules.specs.Outputs.{numbers, firstOf, surveyChecks, checks, drawingChecks, drawable, surveyOf, pointFloats, triangleNumbers, written, Drawing, draw}
 use Rattle.rules.specs.Closing.{Carries, Closed, ClosedIn}
-use Rattle.octree.proofs.Accepted.{first-append}
+use Rattle.octree.proofs.Accepted.{first-append, first-none}
 use Rattle.places.proofs.Stored.{point-floats, placed}
 use Rattle.loops.proofs.Slices.{length-numbers}
 use Rattle.drawing.proofs.Slices.{room, triangles-back}
@@ -29,18 +29,10 @@ both-fit a b n m = go (ltb a n) (ltb b m) refl refl
     go false true d e h = absurd (omega arith)
     go false false d e h = (nltb→le a n (→false d), nltb→le b m (→false e))
 
--- a number that is 0 where the checks find nothing, and else theirs
-passed : (number short : ℕ) → cond (eqb number 0) short number ≡ 0 → T (eqb number 0) × (short ≡ 0)
-passed number short = go (eqb number 0) refl
-  where
-    go : (u : Bool) → eqb number 0 ≡ u → cond u short number ≡ 0 → T (eqb number 0) × (short ≡ 0)
-    go true e h = (→true e, h)
-    go false e h = absurd (not-both (eq→eqb number 0 h) e)
-
 module _ (tc tk : List ℕ) (clearance : Float) (ps : List Float) (ts : List ℕ) where
   -- what drawing gives at a number
   unfoldable pub given : ℕ → Drawing
-  unfolding surveyOf pointEdges allTriangles pointFloats triangleNumbers accepted
+  unfolding surveyOf pointEdges allTriangles pointFloats triangleNumbers drawable
   given number =
       let s = surveyOf tc tk clearance in
       let newPoints = written (pointFloats tc tk clearance) ps in
@@ -48,38 +40,33 @@ module _ (tc tk : List ℕ) (clearance : Float) (ps : List Float) (ts : List ℕ
       record {
         result = record {
           number = number;
-          points = cond (accepted tc tk clearance) (length (pointEdges s)) 0;
-          triangles = cond (accepted tc tk clearance) (length (allTriangles s)) 0;
+          points = cond (drawable tc tk clearance) (length (pointEdges s)) 0;
+          triangles = cond (drawable tc tk clearance) (length (allTriangles s)) 0;
         };
         points = cond (eqb number 0) newPoints ps;
         triangles = cond (eqb number 0) newTriangles ts;
       }
 
-  -- the number of the first check of the slices that applies
-  unfoldable pub shortness : ℕ
-  unfolding surveyOf pointEdges allTriangles
-  shortness =
+  -- the checks of the slices
+  abbrev pub sliceChecks : List (ℕ × Bool)
+  sliceChecks =
       let s = surveyOf tc tk clearance in
-      firstOf ((9, ltb (length ps) (3 * length (pointEdges s))) ∷ (10, ltb (length ts) (3 * length (allTriangles s))) ∷ [])
+      (9, ltb (length ps) (3 * length (pointEdges s))) ∷ (10, ltb (length ts) (3 * length (allTriangles s))) ∷ []
 
-  -- drawing: refused by the survey's and the clearance's checks, else by the slices'
-  pub draw-is : draw tc tk clearance ps ts ≡ given (cond (accepted tc tk clearance) shortness (firstOf (checks tc tk clearance)))
-  unfolding draw given shortness accepted
-  draw-is =
-      let s = surveyOf tc tk clearance in
-      ap given (first-append (checks tc tk clearance) ((9, ltb (length ps) (3 * length (pointEdges s))) ∷ (10, ltb (length ts) (3 * length (allTriangles s))) ∷ []) tt)
+  -- drawing: refused by the checks before the slices', else by the slices'
+  pub draw-is : draw tc tk clearance ps ts ≡ given (cond (drawable tc tk clearance) (firstOf sliceChecks) (firstOf (drawingChecks tc tk clearance)))
+  unfolding draw given drawable
+  draw-is = ap given (first-append (drawingChecks tc tk clearance) sliceChecks (unfold drawingChecks checks surveyChecks in tt))
 
-  -- the number is 0 only where the survey is accepted and both slices are long enough
+  -- the number is 0 only where the survey is drawable and both slices are long enough
   pub drawn-fits : draw tc tk clearance ps ts .result .number ≡ 0 → let s = surveyOf tc tk clearance in
-      T (accepted tc tk clearance) × (3 * length (pointEdges s) ≤ length ps) × (3 * length (allTriangles s) ≤ length ts)
-  unfolding given shortness accepted
+      T (drawable tc tk clearance) × (3 * length (pointEdges s) ≤ length ps) × (3 * length (allTriangles s) ≤ length ts)
+  unfolding draw drawable
   drawn-fits zero =
       let s = surveyOf tc tk clearance in
-      let h : given (cond (accepted tc tk clearance) shortness (firstOf (checks tc tk clearance))) .result .number ≡ 0 =
-      subst (λ (d : Drawing). d .result .number ≡ 0) draw-is zero in
-      let p = passed (firstOf (checks tc tk clearance)) shortness h in
-      let f = both-fit (length ps) (length ts) (3 * length (pointEdges s)) (3 * length (allTriangles s)) (p .1) in
-      (p .0, f .0, f .1)
+      let none = first-none (drawingChecks tc tk clearance) sliceChecks (unfold drawingChecks checks surveyChecks in tt) zero in
+      let f = both-fit (length ps) (length ts) (3 * length (pointEdges s)) (3 * length (allTriangles s)) (none .1) in
+      (eq→eqb (firstOf (drawingChecks tc tk clearance)) 0 (none .0), f .0, f .1)
 
   -- what is drawn where nothing refuses
   unfoldable pub whole : Drawing
@@ -95,9 +82,9 @@ module _ (tc tk : List ℕ) (clearance : Float) (ps : List Float) (ts : List ℕ
   pub drawn-is : draw tc tk clearance ps ts .result .number ≡ 0 → draw tc tk clearance ps ts ≡ whole
   unfolding given whole
   drawn-is zero =
-      let n = cond (accepted tc tk clearance) shortness (firstOf (checks tc tk clearance)) in
+      let n = cond (drawable tc tk clearance) (firstOf sliceChecks) (firstOf (drawingChecks tc tk clearance)) in
       let h : n ≡ 0 = ap (λ (d : Drawing). d .result .number) (sym draw-is) ∙ zero in
-      draw-is ∙ ap given h ∙ rw (true→ (accepted tc tk clearance) (drawn-fits zero .0))
+      draw-is ∙ ap given h ∙ rw (true→ (drawable tc tk clearance) (drawn-fits zero .0))
 
   -- Demand 3 of what stands in the lent slices, given that the rules' triangles close and their points lie on their edges.
   module _ (closes : let s = surveyOf tc tk clearance in Closed s (length (pointEdges s)) (allTriangles s))

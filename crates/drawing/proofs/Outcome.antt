@@ -10,13 +10,14 @@ use lib.Ieee.{Float}
 use borrow.Author.Tests.{ne-eqb}
 use Rattle.rules.specs.Edges.{pointEdges}
 use Rattle.rules.specs.Steps.{allTriangles}
-use Rattle.rules.specs.Outputs.{firstOf, checks, accepted, surveyOf, pointFloats, triangleNumbers, written, Drawing, draw}
+use Rattle.rules.specs.Outputs.{firstOf, drawingChecks, drawable, surveyOf, pointFloats, triangleNumbers, written, Drawing, draw}
 use Rattle.rules.specs.Closing.{ClosedIn}
 use Rattle.rules.specs.declared.Drawn.{Drawn}
+use Rattle.octree.proofs.Accepted.{drawable→}
 use Rattle.closing.proofs.Closing.{closes}
 use Rattle.places.proofs.OnEdge.{on-edge}
 use Rattle.drawing.specs.Draws.{lent, Draws}
-use Rattle.drawing.proofs.Drawn.{given, shortness, draw-is, both-fit, drawn-fits, closed-in}
+use Rattle.drawing.proofs.Drawn.{given, sliceChecks, draw-is, both-fit, drawn-fits, closed-in}
 
 abbrev pub returned : ℕ → ℕ → ℕ → Drawn
 returned number n m = record { number = number; points = n; triangles = m }
@@ -28,7 +29,7 @@ module _ (tc tk : List ℕ) (clearance : Float) (ps : List Float) (ts : List ℕ
   abbrev pub triangleCount : ℕ
   triangleCount = length (allTriangles (surveyOf tc tk clearance))
 
-  -- what is drawn, by whether the survey is accepted, whether the number is 0, and the number
+  -- what is drawn, by whether the survey is drawable, whether the number is 0, and the number
   outcome : Bool → Bool → ℕ → Drawing
   outcome a z number = record {
     result = returned number (cond a pointCount 0) (cond a triangleCount 0);
@@ -36,21 +37,23 @@ module _ (tc tk : List ℕ) (clearance : Float) (ps : List Float) (ts : List ℕ
     triangles = cond z (written (triangleNumbers tc tk clearance) ts) ts;
   }
 
-  draw-outcome : (a z : Bool) (number : ℕ) → accepted tc tk clearance ≡ a → eqb number 0 ≡ z
-      → cond a (shortness tc tk clearance ps ts) (firstOf (checks tc tk clearance)) ≡ number → draw tc tk clearance ps ts ≡ outcome a z number
+  draw-outcome : (a z : Bool) (number : ℕ) → drawable tc tk clearance ≡ a → eqb number 0 ≡ z
+      → cond a (firstOf (sliceChecks tc tk clearance ps ts)) (firstOf (drawingChecks tc tk clearance)) ≡ number
+      → draw tc tk clearance ps ts ≡ outcome a z number
   unfolding given outcome
-  draw-outcome a z number accepts zero is =
-      let k = ap (λ (b : Bool). cond b (shortness tc tk clearance ps ts) (firstOf (checks tc tk clearance))) accepts ∙ is in
-      draw-is tc tk clearance ps ts ∙ (λ i. outcome (accepts i) ((ap (λ (n : ℕ). eqb n 0) k ∙ zero) i) (k i))
+  draw-outcome a z number passed zero is =
+      let k = ap (λ (b : Bool). cond b (firstOf (sliceChecks tc tk clearance ps ts)) (firstOf (drawingChecks tc tk clearance))) passed ∙ is in
+      draw-is tc tk clearance ps ts ∙ (λ i. outcome (passed i) ((ap (λ (n : ℕ). eqb n 0) k ∙ zero) i) (k i))
 
-  -- accepted: the checks find nothing to refuse
-  pub passes : (number : ℕ) → number ≡ firstOf (checks tc tk clearance) → number ≡ 0 → accepted tc tk clearance ≡ true
-  unfolding accepted
+  -- drawable: the checks before the slices' find nothing to refuse
+  pub passes : (number : ℕ) → number ≡ firstOf (drawingChecks tc tk clearance) → number ≡ 0 → drawable tc tk clearance ≡ true
+  unfolding drawable
   passes number is zero = ap (λ (n : ℕ). eqb n 0) (sym is ∙ zero)
 
-  -- refused by a check of the survey or the clearance: nothing is written
-  pub refused : (number : ℕ) → number ≡ firstOf (checks tc tk clearance) → (number ≡ 0 → ⊥) → Draws (lent tc tk clearance ps ts) (returned number 0 0) ps ts
-  unfolding outcome accepted
+  -- refused by a check before the slices': nothing is written
+  pub refused : (number : ℕ) → number ≡ firstOf (drawingChecks tc tk clearance) → (number ≡ 0 → ⊥)
+      → Draws (lent tc tk clearance ps ts) (returned number 0 0) ps ts
+  unfolding outcome drawable
   refused number is some =
       let d = draw-outcome false false number (ap (λ (n : ℕ). eqb n 0) (sym is) ∙ ne-eqb number 0 some) (ne-eqb number 0 some) (sym is) in
       record {
@@ -59,11 +62,10 @@ module _ (tc tk : List ℕ) (clearance : Float) (ps : List Float) (ts : List ℕ
         triangles-are = sym (ap (λ (d : Drawing). d .triangles) d);
       }
 
-  -- an accepted survey, with both counts as the code has them, and the number of the slice that is too short, or 0
-  module _ (ok : accepted tc tk clearance ≡ true) (n m number : ℕ) (points-are : n ≡ pointCount) (triangles-are : m ≡ triangleCount)
+  -- a drawable survey, with both counts as the code has them, and the number of the slice that is too short, or 0
+  module _ (ok : drawable tc tk clearance ≡ true) (n m number : ℕ) (points-are : n ≡ pointCount) (triangles-are : m ≡ triangleCount)
       (is : number ≡ firstOf ((9, ltb (length ps) (3 * n)) ∷ (10, ltb (length ts) (3 * m)) ∷ [])) where
-    short-is : shortness tc tk clearance ps ts ≡ number
-    unfolding shortness
+    short-is : firstOf (sliceChecks tc tk clearance ps ts) ≡ number
     short-is = sym (is ∙ (λ i. firstOf ((9, ltb (length ps) (3 * points-are i)) ∷ (10, ltb (length ts) (3 * triangles-are i)) ∷ [])))
 
     -- a slice is too short: nothing is written
@@ -101,9 +103,9 @@ pub drawn-closed : (tc tk : List ℕ) (clearance : Float) (ps : List Float) (ts 
 drawn-closed tc tk clearance ps ts r points triangles d zero =
     let D : Drawing = draw tc tk clearance ps ts in
     let none : D .result .number ≡ 0 = sym (ap (λ (r : Drawn). r .number) (d .result-is)) ∙ zero in
-    let ok : T (accepted tc tk clearance) = drawn-fits tc tk clearance ps ts none .0 in
+    let ok : T (drawable tc tk clearance) = drawn-fits tc tk clearance ps ts none .0 in
     let c : ClosedIn tc tk clearance (D .result) (D .points) (D .triangles) =
-    closed-in tc tk clearance ps ts (closes tc tk clearance ok) (on-edge tc tk clearance ok) none in
+    closed-in tc tk clearance ps ts (closes tc tk clearance ok) (on-edge tc tk clearance (drawable→ tc tk clearance ok .0)) none in
     subst (λ (r : Drawn). ClosedIn tc tk clearance r points triangles) (sym (d .result-is))
     (subst (λ (p : List Float). ClosedIn tc tk clearance (D .result) p triangles) (sym (d .points-are))
     (subst (λ (t : List ℕ). ClosedIn tc tk clearance (D .result) (D .points) t) (sym (d .triangles-are)) c))

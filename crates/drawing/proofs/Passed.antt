@@ -1,22 +1,45 @@
--- What the tables of an accepted survey are made from.
+-- What the checks give where they pass: a drawable survey is accepted, and what its tables are made from.
 -- Assumes nothing.
 use Prim.Native.Nat.{ℕ, _/_, _≤_}
 use native.Mathlib.Omega.{arith}
-use mathlib.Core.Path.{_≡_, refl}
+use mathlib.Core.Path.{_≡_, refl, sym, ap, _∙_}
 use mathlib.Core.Bool.{true, false}
 use mathlib.Core.List.{List, []}
+use lib.Dec.{eqb}
 use lib.ListN.{length, replicate}
 use lib.Ieee.{Float}
 use Rattle.base.specs.Lists.{any}
 use Rattle.base.proofs.Tests.{→true, true→, false→}
 use Rattle.rules.specs.Survey.{entries, cellsOf}
-use Rattle.rules.specs.Outputs.{entriesRight, rising, surveyRefusal, accepted}
-use Rattle.octree.proofs.Accepted.{Checked, checked, accepted→}
+use Rattle.rules.specs.OpenAtBox.{openAtBox}
+use Rattle.rules.specs.Outputs.{entriesRight, rising, firstOf, surveyChecks, surveyRefusal, checks, accepted, drawingChecks, drawable}
+use Rattle.octree.proofs.Accepted.{refused-before, refused-last, refused-never, Checked, checked, accepted→, drawable→}
 use Rattle.records.specs.Keys.{placesOf}
 use Rattle.cells.specs.Laid.{tooDeep}
 use Rattle.edges.specs.Tables.{Levels}
 use Rattle.edges.proofs.Notes.{none-noted}
 use Rattle.edges.proofs.Surveyed.{rises-true, corners-few, cells-few}
+
+-- check 12 is made after those of the survey and the clearance
+module _ (tc tk : List ℕ) (clearance : Float) (n : ℕ) (n-is : n ≡ firstOf (checks tc tk clearance)) where
+  pub refused-earlier : (n ≡ 0 → ⊥) → n ≡ firstOf (drawingChecks tc tk clearance)
+  unfolding drawingChecks
+  refused-earlier = refused-before (checks tc tk clearance) (unfold checks surveyChecks in tt) 12 (openAtBox tk clearance) n n-is
+
+  pub refused-open : n ≡ 0 → openAtBox tk clearance ≡ true → 12 ≡ firstOf (drawingChecks tc tk clearance)
+  unfolding drawingChecks
+  refused-open = refused-last (checks tc tk clearance) (unfold checks surveyChecks in tt) 12 (openAtBox tk clearance) n n-is
+
+  pub refused-not : n ≡ 0 → openAtBox tk clearance ≡ false → 0 ≡ firstOf (drawingChecks tc tk clearance)
+  unfolding drawingChecks
+  refused-not = refused-never (checks tc tk clearance) (unfold checks surveyChecks in tt) 12 (openAtBox tk clearance) n n-is
+
+  pub accepts : n ≡ 0 → accepted tc tk clearance ≡ true
+  unfolding accepted
+  accepts zero = ap (λ (m : ℕ). eqb m 0) (sym n-is ∙ zero)
+
+pub drawable-accepted : (tc tk : List ℕ) (clearance : Float) → drawable tc tk clearance ≡ true → accepted tc tk clearance ≡ true
+drawable-accepted tc tk clearance ok = true→ (accepted tc tk clearance) (drawable→ tc tk clearance (→true ok) .0)
 
 module _ (tc tk : List ℕ) (clearance : Float) (ok : accepted tc tk clearance ≡ true) where
   pub unrefused : surveyRefusal tc tk ≡ 0

@@ -34,9 +34,9 @@ module _ (a b n m number : ℕ) (is : number ≡ firstOf ((9, ltb a n) ∷ (10, 
       (λ i. le-leb n a (both .0) i && le-leb m b (both .1) i)
 
 -- the tables that the leaves are drawn from
-abbrev pub known : (tc tk : List ℕ) (clearance : Float) {across crossings wets slots carriers twins : List ℕ} {n : ℕ}
+abbrev pub known : (tc tk : List ℕ) (clearance : Float) {across crossings slots carriers twins : List ℕ} {n : ℕ}
     → accepted tc tk clearance ≡ true → Beyond tc across → Crossings (surveyOf tc tk clearance) tc crossings
-    → Filled tc tk clearance wets slots carriers twins n → Known tc across crossings twins n
+    → Filled tc tk clearance slots carriers twins n → Known tc across crossings twins n
 known tc tk clearance ok beyond crossed f = record {
   corners = tk;
   clearance = clearance;

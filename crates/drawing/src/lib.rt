@@ -1,17 +1,15 @@
-// The drawing call: the checks, the tables, all triangles, the refusals of slices that are too short, the points. The slices are written only where both have
-// room. Uses checks, edges, twins, across, crossings and triangles.
+// The drawing call: the checks, 12 after 8, the tables, all triangles, the refusals of slices that are too short, the points. The slices are written only where
+// both have room. Uses checks, edges, twins, across, crossings and triangles.
 ghost use mathlib.Core.Path.{_≡_};
 ghost use mathlib.Core.Bool.{true};
 ghost use mathlib.Core.List.{[], _∷_};
 ghost use Prim.Native.Nat.{_*_, _/_, _≤_};
 ghost use lib.Dec.{ltb};
 ghost use lib.ListN.{length};
-ghost use Rattle.rules.specs.Outputs.{accepted, firstOf};
+ghost use Rattle.rules.specs.Outputs.{firstOf, accepted, drawingChecks, drawable};
 ghost use Rattle.rules.specs.Closing.{ClosedIn};
-ghost use Rattle.cells.specs.Laid.{Laid};
-ghost use Rattle.octants.specs.Octants.{Octants};
 ghost use Rattle.edges.specs.Tables.{Levels};
-ghost use Rattle.drawing.specs.Filled.{Filled};
+ghost use Rattle.drawing.specs.Filled.{Read, Filled};
 ghost use Rattle.drawing.specs.Draws.{lent, Draws};
 use rules::Drawn;
 
@@ -41,6 +39,30 @@ fn result(number: u32, n: usize, m: u32) -> Drawn
     }
 }
 
+// The checks of drawing but those of the slices: 1 to 8, then 12. The number of the first that applies, or 0: then the tables hold the cells, their corners and
+// which corners are wet.
+fn refusal(
+    cells: &[u8],
+    corners: &[u8],
+    clearance: f32,
+    laid: &mut [u64],
+    octants: &mut [u16],
+    wets: &mut [u8],
+) -> u32
+    requires { ⌜ (length (now laid) ≡ 2049) × (length (now octants) ≡ 16392) × (length (now wets) ≡ 4872) ⌝ }
+    ensures { λ r. ⌜ r ≡ firstOf (drawingChecks (now (cells .entry)) (now (corners .entry)) clearance) ⌝ }
+    ensures { λ r. ⌜ (r ≡ 0 → Read (now (cells .entry)) (now (corners .entry)) clearance (now (laid .exit)) (now (octants .exit)) (now (wets .exit))) ⌝ }
+{
+    let number = checks::refusal(cells, corners, clearance, laid, octants);
+    if number != 0 {
+        return number;
+    }
+    if edges::fill_wets(corners, clearance, wets) {
+        return 12;
+    }
+    0
+}
+
 // Fills the tables of the edges and points of an accepted survey. How many points there are.
 fn fill_tables(
     cells: &[u8],
@@ -48,41 +70,39 @@ fn fill_tables(
     clearance: f32,
     laid: &[u64],
     octants: &[u16],
-    wets: &mut [u8],
+    wets: &[u8],
     slots: &mut [u16],
     carriers: &mut [u16],
     twins: &mut [u16],
 ) -> usize
     requires { ⌜ accepted (now cells) (now corners) clearance ≡ true ⌝ }
-    requires { ⌜ Laid (now cells) (now laid) × (length (now cells) / 4 ≤ length (now laid)) × Octants (now cells) (now corners) (now octants) ⌝ }
+    requires { ⌜ Read (now cells) (now corners) clearance (now laid) (now octants) (now wets) ⌝ }
     requires { ⌜ Levels (now corners) [] (now slots) ⌝ }
-    requires { ⌜ (length (now wets) ≡ 4872) × (length (now carriers) ≡ 14616) × (length (now twins) ≡ 14616) ⌝ }
-    ensures { λ r. ⌜ Filled (now (cells .entry)) (now (corners .entry)) clearance (now (wets .exit)) (now (slots .exit)) (now (carriers .exit))
-        (now (twins .exit)) r ⌝ }
+    requires { ⌜ (length (now carriers) ≡ 14616) × (length (now twins) ≡ 14616) ⌝ }
+    ensures { λ r. ⌜ Filled (now (cells .entry)) (now (corners .entry)) clearance (now (slots .exit)) (now (carriers .exit)) (now (twins .exit)) r ⌝ }
 {
-    edges::fill_wets(corners, clearance, wets);
     edges::fill_levels(cells, corners, octants, laid, slots);
     let n = edges::number_slots(cells, corners, clearance, wets, slots, carriers);
     twins::fill(cells, corners, clearance, wets, slots, carriers, n, twins);
     n
 }
 
-// Draws an accepted survey: its tables, the triangles, and the points where nothing refuses.
-fn draw_accepted(
+// Draws a drawable survey: its tables, the triangles, and the points where nothing refuses.
+fn draw_drawable(
     cells: &[u8],
     corners: &[u8],
     clearance: f32,
     laid: &[u64],
     octants: &[u16],
+    wets: &[u8],
     points: &mut [f32],
     triangles: &mut [u32],
 ) -> Drawn
-    requires { ⌜ accepted (now cells) (now corners) clearance ≡ true ⌝ }
-    requires { ⌜ Laid (now cells) (now laid) × (length (now cells) / 4 ≤ length (now laid)) × Octants (now cells) (now corners) (now octants) ⌝ }
+    requires { ⌜ drawable (now cells) (now corners) clearance ≡ true ⌝ }
+    requires { ⌜ Read (now cells) (now corners) clearance (now laid) (now octants) (now wets) ⌝ }
     ensures { λ r. ⌜ Draws (lent (now (cells .entry)) (now (corners .entry)) clearance (now (points .entry)) (now (triangles .entry))) r
         (now (points .exit)) (now (triangles .exit)) ⌝ }
 {
-    let mut wets = [0u8; 4872];
     // 11 everywhere: no edge starts at any slot yet.
     let mut slots = [11u16; 43848];
     let mut carriers = [0u16; 14616];
@@ -93,7 +113,7 @@ fn draw_accepted(
         clearance,
         laid,
         octants,
-        &mut wets,
+        wets,
         &mut slots,
         &mut carriers,
         &mut twins,
@@ -105,7 +125,7 @@ fn draw_accepted(
         cells,
         corners,
         clearance,
-        &wets,
+        wets,
         &slots,
         octants,
         laid,
@@ -122,8 +142,8 @@ fn draw_accepted(
     result(0, n, m)
 }
 
-// Draws the surface of a survey at a clearance: document 01, "Outputs and refusals". For every input, the result and both slices are those of the
-// rules; and where the number is 0, what stands in the slices is closed.
+// Draws the surface of a survey at a clearance: document 01, "Outputs and refusals", and document 02, request 3. For every input, the result and both slices
+// are those of the rules; and where the number is 0, what stands in the slices is closed, without exception.
 pub fn draw(
     cells: &[u8],
     corners: &[u8],
@@ -137,7 +157,15 @@ pub fn draw(
 {
     let mut laid = [0u64; 2049];
     let mut octants = [0u16; 16392];
-    let number = checks::refusal(cells, corners, clearance, &mut laid, &mut octants);
+    let mut wets = [0u8; 4872];
+    let number = refusal(
+        cells,
+        corners,
+        clearance,
+        &mut laid,
+        &mut octants,
+        &mut wets,
+    );
     if number != 0 {
         return Drawn {
             number: number,
@@ -145,12 +173,13 @@ pub fn draw(
             triangles: 0,
         };
     }
-    draw_accepted(
+    draw_drawable(
         cells,
         corners,
         clearance,
         &laid,
         &octants,
+        &wets,
         points,
         triangles,
     )

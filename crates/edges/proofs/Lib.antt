@@ -7,6 +7,7 @@ pub mod Entries
 pub mod Notes
 pub mod Surveyed
 pub mod Filled
+pub mod Open
 pub mod Lawfully
 pub mod Readings
 pub mod Numbering

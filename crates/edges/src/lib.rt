@@ -1,15 +1,16 @@
 // Edges and crossing points of a survey: the table of slots (levels and numbers), the point of an odd edge, and the writer of all points.
 // Uses digits, records, reader, cells and places, and the tables that cells and octants describe. specs/ says what each table holds.
 ghost use mathlib.Core.Path.{_≡_};
-ghost use mathlib.Core.Bool.{true};
+ghost use mathlib.Core.Bool.{true, _&&_, _||_};
 ghost use mathlib.Core.List.{[]};
 ghost use Prim.Native.Nat.{_+_, _*_, _/_, _%_, _≤_, _<_};
 ghost use lib.Dec.{T};
 ghost use lib.ListN.{length, set};
 ghost use Rattle.base.specs.Lists.{bit};
 ghost use Rattle.base.specs.Grid.{Place, axisOf};
-ghost use Rattle.rules.specs.Survey.{cornersOf};
+ghost use Rattle.rules.specs.Survey.{cornersOf, placeOf};
 ghost use Rattle.rules.specs.Edges.{edge, pointEdges, pointOf, spotOn};
+ghost use Rattle.rules.specs.OpenAtBox.{isOuter, openAtBox};
 ghost use Rattle.rules.specs.Outputs.{rising, surveyRefusal, accepted, surveyOf, pointFloats, written};
 ghost use Rattle.records.specs.Keys.{keyOf, placesOf, Short};
 ghost use Rattle.places.specs.Places.{asSpot};
@@ -17,6 +18,7 @@ ghost use Rattle.cells.specs.Laid.{Laid};
 ghost use Rattle.octants.specs.Octants.{Octants};
 ghost use Rattle.edges.specs.Tables.{placeAt, crossedSlot, slotEdge, Levels, Levelled, Numbered, Wets, Carriers, OddEdge, Sought};
 use places::Point;
+use rules::Corner;
 
 pub mod ends;
 pub mod keys;
@@ -40,18 +42,32 @@ pub fn fill_levels(cells: &[u8], corners: &[u8], octants: &[u16], laid: &[u64], 
     }
 }
 
-// The table of wetness, filled: 1 for each corner record that is wet at the clearance, else 0.
-pub fn fill_wets(corners: &[u8], clearance: f32, wets: &mut [u8])
+// The pool is open at the box if it was before, or if this corner is wet and on an outer face.
+fn opens(opened: bool, corner: Corner, wet: bool) -> bool
+    ensures { λ r. ⌜ r ≡ opened || (isOuter (placeOf corner) && wet) ⌝ }
+{
+    opened || (records::is_outer(corner) && wet)
+}
+
+// The table of wetness, filled: 1 for each corner record that is wet at the clearance, else 0. Whether the pool is open at the box, which check 12 asks, comes
+// with the same pass.
+pub fn fill_wets(corners: &[u8], clearance: f32, wets: &mut [u8]) -> bool
     requires { ⌜ rising (placesOf (now corners)) ≡ true ⌝ }
     requires { ⌜ (length (now wets) ≡ 4872) × (length (now corners) ≤ 48720) ⌝ }
+    ensures { λ r. ⌜ r ≡ openAtBox (now (corners .entry)) clearance ⌝ }
     ensures { λ _. ⌜ Wets (now (corners .entry)) clearance (now (wets .exit)) ⌝ }
 {
     let count = corners.len() / 10;
+    let mut opened = false;
     let mut k: usize = 0;
     while k < count {
-        wets[k] = keys::mark(records::is_wet(records::corner_at(corners, k), clearance));
+        let corner = records::corner_at(corners, k);
+        let wet = records::is_wet(corner, clearance);
+        wets[k] = keys::mark(wet);
+        opened = opens(opened, corner, wet);
         k += 1;
     }
+    opened
 }
 
 // The edge of the lowest level at a slot is crossed.

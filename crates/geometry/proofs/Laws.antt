@@ -26,7 +26,7 @@ use Rattle.geometry.proofs.Balance.{leaves-balance}
 use Rattle.geometry.proofs.Trees.{OnLine, sibling-line}
 use Rattle.geometry.proofs.Points.{carried, pairHit, pair-blind, square-adds, twin-twice, twin-edges}
 use Rattle.geometry.proofs.Located.{hits, OffPlane, left-once, entered-once, none-shown}
-use Rattle.geometry.proofs.Outside.{Outer, one-off, no-tally, no-ends, dry-none}
+use Rattle.geometry.proofs.Outside.{one-off, no-tally, no-ends}
 
 pub leave-is : (ss : List Step) (p : ℕ) → leave ss p ≡ sum (λ t. hits p (t .0)) ss
 unfolding leave
@@ -164,11 +164,3 @@ module _ (s : Survey) (law : Lawful s) where
       go : (b : Axis) (m : ℕ) → OffPlane (edgeOf s p) b m ⊎ OffPlane (edgeOf s (twinOf s p)) b m → OffPlane (edgeOf s p) b m
       go b m (inl o) = o
       go b m (inr o) = off-line (edgeOf s p) (edgeOf s (twinOf s p)) b m line o
-
-  -- The same for all points, where every place on the outside of the box is dry.
-  module _ (dry : (p : Place) (b : Axis) → Outer (along b p) → s .isWet p ≡ false) where
-    pub dry-balance : (p q : ℕ) → sum (λ c. tally p q (leafSteps s c)) (leavesOf s) ≡ sum (λ c. tally q p (leafSteps s c)) (leavesOf s)
-    dry-balance p q = balanced p q (dry-none s law dry (λ t. step p q (t .0) (t .1)))
-
-    pub dry-ends : (p : ℕ) → sum (λ c. leave (leafSteps s c) p) (leavesOf s) ≡ sum (λ c. enter (leafSteps s c) p) (leavesOf s)
-    dry-ends p = even-ends p (dry-none s law dry (λ t. hits p (t .0)))

@@ -1,11 +1,11 @@
--- What the box shows on its own six sides: steps between edges in one outer face, and none where every place there is dry.
-use Prim.Native.Nat.{ℕ, _+_, _^_, _≤_}
+-- What the box shows on its own six sides: steps between edges in one outer face, and no others.
+use Prim.Native.Nat.{ℕ, _^_, _≤_}
 use native.Mathlib.Omega.{arith}
 use mathlib.Core.Path.{_≡_, refl, sym, _∙_, ap, subst}
 use mathlib.Core.Logic.{_⊎_, inl, inr}
 use mathlib.Core.Bool.{Bool, false, not, _&&_, _||_}
 use lib.Dec.{T, eqb, eqb→eq, T-not}
-use Rattle.base.specs.Grid.{Place, origin, Axis, X, Y, Z, axes, next, along}
+use Rattle.base.specs.Grid.{origin, Axis, X, Y, Z, axes, next, along}
 use Rattle.rules.specs.Survey.{Survey}
 use Rattle.rules.specs.Edges.{CellEdge, upperEnd}
 use Rattle.rules.specs.Steps.{Step, edgeOf}
@@ -15,9 +15,9 @@ use Rattle.base.proofs.Lists.{in→any}
 use Rattle.base.proofs.Sums.{sum-le}
 use Rattle.base.proofs.Places.{each-axis}
 use Rattle.octree.specs.Lawful.{isCell, Lawful}
-use Rattle.geometry.proofs.Grid.{place, along-across, along-move-first, along-move-second, total, seen}
+use Rattle.geometry.proofs.Grid.{place, along-move-first, along-move-second, total, seen}
 use Rattle.geometry.proofs.Square.{turned, drawn, squareSteps, squarePoint}
-use Rattle.geometry.proofs.Area.{total-le, total-none}
+use Rattle.geometry.proofs.Area.{total-le}
 use Rattle.geometry.proofs.Once.{Which, same, first, second, which}
 use Rattle.geometry.proofs.Sides.{Flank, parted, flank-kept}
 use Rattle.geometry.proofs.Small.{shown}
@@ -158,24 +158,3 @@ module _ (s : Survey) (law : Lawful s) where
       → (shown s (λ t. hits p (t .0)) 10 origin ≡ 0) × (shown s (λ t. hits p (t .1)) 10 origin ≡ 0)
   no-ends p h =
       box-none s (λ t. hits p (t .0)) law (λ b n o k. (left-off s law p b 10 n 0 0 k (h b n o), entered-off s law p b 10 n 0 0 k (h b n o)))
-
-  -- where every place on the outside of the box is dry
-  pub dry-none : ((p : Place) (b : Axis) → Outer (along b p) → s .isWet p ≡ false) → (f : Step → ℕ)
-      → (shown s f 10 origin ≡ 0) × (shown s (turned f) 10 origin ≡ 0)
-  unfolding drawn squareSteps
-  dry-none dry f = box-none s f law (λ b n o _. (none b n o f, none b n o (turned f)))
-    where
-      dry-at : (b : Axis) (n u v : ℕ) → Outer n → s .isWet (place b n u v) ≡ false
-      dry-at b n u v o = dry (place b n u v) b (subst Outer (sym (along-across b n u v)) o)
-
-      unmet : (b : Axis) (n : ℕ) → Outer n → (f : Step → ℕ) (k u v : ℕ) → drawn s f b k n u v ≡ 0
-      unmet b n o f k u v = rw (dry-at b n u v o, dry-at b n (u + 2 ^ k) v o, dry-at b n (u + 2 ^ k) (v + 2 ^ k) o, dry-at b n u (v + 2 ^ k) o)
-
-      none : (b : Axis) (n : ℕ) → Outer n → (f : Step → ℕ) → total (parted (s .cells) b) (drawn s f b) 10 n 0 0 ≡ 0
-      none b n o f =
-          omega (
-            arith,
-            total-none (parted (s .cells) b) 10 n 0 0,
-            total-le (parted (s .cells) b) (λ k m u v. m ≡ n) (λ k m u v h _ _ _. h) (drawn s f b) (λ k m u v. 0)
-                (λ k m u v h. omega (arith, ap (λ m. drawn s f b k m u v) h ∙ unmet b n o f k u v)) 10 n 0 0 refl,
-          )

@@ -4,13 +4,15 @@ use mathlib.Core.Path.{_≡_, refl, sym, ap, _∙_, subst}
 use mathlib.Core.Logic.{_⊎_, inl, inr}
 use mathlib.Core.Bool.{Bool, true, false, not, _&&_, cond}
 use mathlib.Core.List.{List, [], _∷_, _++_, map}
-use native.Mathlib.Omega.{arith}
 use lib.Dec.{T, T-not, eqb, eqb→eq}
 use lib.Ieee.{Float}
+use borrow.Author.Tests.{eq-eqb, ne-eqb}
 use Rattle.base.specs.Lists.{any, all}
 use Rattle.base.specs.Grid.{Place, same, octants}
 use Rattle.rules.specs.Survey.{Cell, cell, size, entries, cellsOf, cellCorners, cornersOf, placeOf}
-use Rattle.rules.specs.Outputs.{badTable, entriesRight, rising, cornersRight, inRange, firstOf, surveyChecks, surveyRefusal, checks, accepted, surveyOf}
+use Rattle.rules.specs.OpenAtBox.{openAtBox}
+use Rattle.rules.specs.Outputs.{badTable, entriesRight, rising, cornersRight, inRange, firstOf, surveyChecks, surveyRefusal, checks, accepted}
+use Rattle.rules.specs.Outputs.{drawingChecks, drawable, surveyOf}
 use Rattle.rules.specs.declared.Corner.{Corner}
 use Rattle.base.proofs.Tests.{and→, either, not-both, eq→eqb, →true, →false}
 use Rattle.base.proofs.Lists.{In, any→in, in→any, all→in}
@@ -49,6 +51,28 @@ first-append (t ∷ ts) us n = go (t .1) (first-append ts us (and→ (not (eqb (
         cond b (t .0) (firstOf (ts ++ us)) ≡ cond (eqb (cond b (t .0) (firstOf ts)) 0) (firstOf us) (cond b (t .0) (firstOf ts))
     go true ih = other (eqb (t .0) 0) (and→ (not (eqb (t .0) 0)) (numbered ts) n .0)
     go false ih = ih
+
+-- where none of all checks applies, none of either part does
+pub first-none : (ts us : List (ℕ × Bool)) → T (numbered ts) → firstOf (ts ++ us) ≡ 0 → (firstOf ts ≡ 0) × (firstOf us ≡ 0)
+first-none ts us n h = go (eqb (firstOf ts) 0) refl (sym (first-append ts us n) ∙ h)
+  where
+    go : (b : Bool) → eqb (firstOf ts) 0 ≡ b → cond b (firstOf us) (firstOf ts) ≡ 0 → (firstOf ts ≡ 0) × (firstOf us ≡ 0)
+    go true e h = (eqb→eq (firstOf ts) 0 (→true e), h)
+    go false e h = absurd (not-both (eq→eqb (firstOf ts) 0 h) e)
+
+-- one check more, after checks of which n is the first number
+module _ (ts : List (ℕ × Bool)) (none-zero : T (numbered ts)) (k : ℕ) (b : Bool) (n : ℕ) (is : n ≡ firstOf ts) where
+  first-of-more : firstOf (ts ++ (k, b) ∷ []) ≡ cond (eqb n 0) (cond b k 0) n
+  first-of-more = first-append ts ((k, b) ∷ []) none-zero ∙ ap (λ m. cond (eqb m 0) (cond b k 0) m) (sym is)
+
+  pub refused-before : (n ≡ 0 → ⊥) → n ≡ firstOf (ts ++ (k, b) ∷ [])
+  refused-before z = sym (first-of-more ∙ rw (ne-eqb n 0 z))
+
+  pub refused-last : n ≡ 0 → b ≡ true → k ≡ firstOf (ts ++ (k, b) ∷ [])
+  refused-last z e = sym (first-of-more ∙ rw (eq-eqb n 0 z, e))
+
+  pub refused-never : n ≡ 0 → b ≡ false → 0 ≡ firstOf (ts ++ (k, b) ∷ [])
+  refused-never z e = sym (first-of-more ∙ rw (eq-eqb n 0 z, e))
 
 -- ---- what each check gives
 
@@ -89,30 +113,31 @@ checked tc tk h =
           (passes (7, any (λ k. not (inRange (k .sounding))) (cornersOf tk)) (inr (inr (inr (inr (inr (inr (inl refl))))))));
     }
 
--- accepted is: no refusal of the survey by itself, and the clearance in range
-accepted-is : (tc tk : List ℕ) (clearance : Float) →
-    firstOf (checks tc tk clearance) ≡ cond (eqb (surveyRefusal tc tk) 0) (cond (not (inRange clearance)) 8 0) (surveyRefusal tc tk)
-unfolding checks surveyRefusal
-accepted-is tc tk clearance = first-append (surveyChecks tc tk) ((8, not (inRange clearance)) ∷ []) (unfold surveyChecks in tt)
-
+-- accepted: no refusal of the survey by itself, and the clearance in range
 pub accepted→ : (tc tk : List ℕ) (clearance : Float) → T (accepted tc tk clearance) → (surveyRefusal tc tk ≡ 0) × T (inRange clearance)
-unfolding accepted
+unfolding accepted checks surveyRefusal
 accepted→ tc tk clearance t =
-    go (surveyRefusal tc tk) (eqb (surveyRefusal tc tk) 0) refl (inRange clearance)
-    (sym (accepted-is tc tk clearance) ∙ eqb→eq (firstOf (checks tc tk clearance)) 0 t)
-  where
-    go : (n : ℕ) (b : Bool) → eqb n 0 ≡ b → (r : Bool) → cond b (cond (not r) 8 0) n ≡ 0 → (n ≡ 0) × T r
-    go n true e true h = (eqb→eq n 0 (→true e), tt)
-    go n true e false h = absurd (omega arith)
-    go n false e r h = absurd (not-both (eq→eqb n 0 h) e)
+    let eight : ℕ × Bool = (8, not (inRange clearance)) in
+    let none = first-none (surveyChecks tc tk) (eight ∷ []) (unfold surveyChecks in tt) (eqb→eq (firstOf (checks tc tk clearance)) 0 t) in
+    (none .0, passed (inRange clearance) (none-applies (eight ∷ []) tt (none .1) eight (inl refl)))
 
 pub →accepted : (tc tk : List ℕ) (clearance : Float) → surveyRefusal tc tk ≡ 0 → T (inRange clearance) → T (accepted tc tk clearance)
-unfolding accepted
-→accepted tc tk clearance h t = eq→eqb (firstOf (checks tc tk clearance)) 0 (accepted-is tc tk clearance ∙ go (surveyRefusal tc tk) (inRange clearance) h t)
+unfolding accepted checks surveyRefusal
+→accepted tc tk clearance h t =
+    eq→eqb (firstOf (checks tc tk clearance)) 0
+    (first-append (surveyChecks tc tk) ((8, not (inRange clearance)) ∷ []) (unfold surveyChecks in tt) ∙ go (surveyRefusal tc tk) (inRange clearance) h t)
   where
     go : (n : ℕ) (r : Bool) → n ≡ 0 → T r → cond (eqb n 0) (cond (not r) 8 0) n ≡ 0
     go n true h t = subst (λ m. cond (eqb m 0) 0 m ≡ 0) (sym h) refl
     go n false h t = absurd t
+
+-- drawable: accepted, and not open at the box
+pub drawable→ : (tc tk : List ℕ) (clearance : Float) → T (drawable tc tk clearance) → T (accepted tc tk clearance) × (openAtBox tk clearance ≡ false)
+unfolding drawable drawingChecks accepted
+drawable→ tc tk clearance t =
+    let twelve : ℕ × Bool = (12, openAtBox tk clearance) in
+    let none = first-none (checks tc tk clearance) (twelve ∷ []) (unfold checks surveyChecks in tt) (eqb→eq (firstOf (drawingChecks tc tk clearance)) 0 t) in
+    (eq→eqb (firstOf (checks tc tk clearance)) 0 (none .0), none-applies (twelve ∷ []) tt (none .1) twelve (inl refl))
 
 -- ---- the laws of an accepted survey
 

@@ -3,6 +3,7 @@ pub mod Queue
 pub mod Covers
 pub mod Tree
 pub mod Accepted
+pub mod Corners
 pub mod Records
 pub mod Rising
 pub mod Edges

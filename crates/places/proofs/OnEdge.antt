@@ -1,30 +1,27 @@
 -- In an accepted survey every edge has two listed corners as its ends, within the box. So what request 2 of document 02 says of places holds of every odd edge,
 -- and the place of every point lies on the edge that carries it.
 -- Assumes nothing.
-use Prim.Native.Nat.{ℕ, _+_, _*_, _/_, _^_}
-use mathlib.Core.Path.{_≡_, refl, sym, ap, subst}
-use mathlib.Core.Logic.{_⊎_, inl, inr}
-use mathlib.Core.Bool.{Bool, true, false, _||_, cond}
-use mathlib.Core.List.{List, [], _∷_, map}
+use Prim.Native.Nat.{ℕ, _*_, _/_}
+use mathlib.Core.Path.{sym, subst}
+use mathlib.Core.List.{List}
 use native.Mathlib.Omega.{arith}
 use lib.Dec.{T}
-use lib.IntN.{pos}
 use lib.ListN.{length}
-use lib.Ieee.{Float, fin, binary32, fits}
+use lib.Ieee.{Float, binary32, fits}
 use lib.Ieee.Bits.{ofBits-fits}
-use Rattle.base.specs.Lists.{any, first, count, little, bytes}
-use Rattle.base.specs.Grid.{Place, along, same}
+use Rattle.base.specs.Lists.{any, count, little, bytes}
+use Rattle.base.specs.Grid.{Place, same}
 use Rattle.base.proofs.Lists.{In, in-map}
-use Rattle.base.proofs.Places.{put-one}
-use Rattle.rules.specs.Survey.{cornerRecord, cornersOf, placeOf, cornerAt, Survey}
+use Rattle.rules.specs.Survey.{cornerRecord, cornersOf, cornerAt, Survey}
 use Rattle.rules.specs.Edges.{CellEdge, upperEnd, isEdge, spotOn, OnEdge}
 use Rattle.rules.specs.Outputs.{inRange, surveyOf, accepted}
 use Rattle.rules.specs.Closing.{Carries, isOdd}
 use Rattle.rules.specs.AwashPlaces.{dryCorner, wetCorner, PlaceByEnds, PlacesByEnds}
 use Rattle.rules.specs.declared.Corner.{Corner}
-use Rattle.octree.specs.Lawful.{CornerOf, Lawful}
+use Rattle.octree.specs.Lawful.{Lawful}
 use Rattle.octree.proofs.Accepted.{checked, accepted→, lawful}
-use Rattle.octree.proofs.Edges.{edge→, undivided→, crossed→}
+use Rattle.octree.proofs.Corners.{at-listed}
+use Rattle.octree.proofs.Edges.{lower-end, upper-end, undivided→, crossed→}
 use Rattle.octree.proofs.Aligned.{edge-in-box}
 use Rattle.octree.proofs.Points.{carried-crossed}
 use Rattle.places.proofs.Bound.{Sounding}
@@ -33,30 +30,7 @@ use Rattle.places.proofs.Spots.{placed}
 -- both ends of an edge are listed
 pub ends-listed : (s : Survey) → Lawful s → (e : CellEdge) → T (isEdge (s .cells) (e .axis) (e .low) (e .level))
     → T (any (same (e .low)) (s .places)) × T (any (same (upperEnd e)) (s .places))
-ends-listed s law e t =
-    let a = e .axis in
-    let (q, c, start, corner) = edge→ (s .cells) a (e .low) (e .level) t in
-    let upper : CornerOf (e .level) q (upperEnd e) =
-    put-one (λ b v. (v ≡ along b q) ⊎ (v ≡ along b q + 2 ^ e .level)) a (along a (e .low) + 2 ^ e .level) (e .low)
-    (inr (ap (λ (n : ℕ). n + 2 ^ e .level) start)) corner in
-    (law .listed (e .level) q (e .low) c corner, law .listed (e .level) q (upperEnd e) c upper)
-
--- what holds of every corner of the table holds of the one at a listed place
-at-listed : (P : Corner → Type 0) (cs : List Corner) (q : Place) → ((c : Corner) → In c cs → P c) → T (any (same q) (map placeOf cs)) → P (cornerAt cs q)
-unfolding cornerAt
-at-listed P cs q h t = go cs h t
-  where
-    d : Corner
-    d = record { x = q .x; y = q .y; z = q .z; sounding = fin false 0 (pos 0) }
-
-    go : (cs : List Corner) → ((c : Corner) → In c cs → P c) → T (any (same q) (map placeOf cs)) → P (first (λ c. same q (placeOf c)) d cs)
-    go [] h t = absurd t
-    go (c ∷ cs) h t = pick (same q (placeOf c)) t (h c (inl refl)) (go cs (λ x i. h x (inr i)))
-      where
-        pick : (b : Bool) → T (b || any (same q) (map placeOf cs)) → P c → (T (any (same q) (map placeOf cs)) → P (first (λ c. same q (placeOf c)) d cs))
-            → P (cond b c (first (λ c. same q (placeOf c)) d cs))
-        pick true t u r = u
-        pick false t u r = r t
+ends-listed s law e t = (lower-end s law (e .axis) (e .low) (e .level) t, upper-end s law (e .axis) (e .low) (e .level) t)
 
 record-fits : (t : List ℕ) (k : ℕ) → T (fits binary32 (cornerRecord t k .sounding))
 unfolding cornerRecord

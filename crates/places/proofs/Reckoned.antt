@@ -2,20 +2,18 @@
 -- place of a point by the end that is wet.
 -- Assumes nothing.
 use Prim.Native.Nat.{ℕ, zero, suc, _^_, _<_, _≤_}
-use mathlib.Core.Path.{_≡_, refl, sym, ap}
+use mathlib.Core.Path.{_≡_, refl, ap}
 use mathlib.Core.Logic.{_≢_}
-use mathlib.Core.Bool.{Bool, true, false, cond}
-use mathlib.Core.List.{List, [], _∷_}
-use lib.Dec.{T}
+use mathlib.Core.Bool.{true, false}
+use mathlib.Core.List.{List}
 use lib.IntN.{pos}
-use lib.Ieee.{Float, fin, binary32, add, sub, mul, div, ofInt}
+use lib.Ieee.{Float, binary32, add, sub, mul, div, ofInt}
 use borrow.Author.Tests.{lt-ltb, le-ltb}
-use Rattle.base.specs.Grid.{Axis, X, Y, Z, Place, along, axisOf, same}
-use Rattle.base.specs.Lists.{first}
-use Rattle.base.proofs.Places.{same→}
+use Rattle.base.specs.Grid.{Axis, X, Y, Z, along, axisOf}
 use Rattle.rules.specs.Survey.{placeOf, wet, cornerAt}
 use Rattle.rules.specs.Edges.{CellEdge, upperEnd, float, fraction, moving, spot, spotOn}
 use Rattle.rules.specs.declared.Corner.{Corner}
+use Rattle.octree.proofs.Corners.{corner-there}
 use Rattle.places.specs.Places.{spotBetween}
 
 -- ---- the axis with a number
@@ -74,23 +72,9 @@ module _ (clearance : Float) (a : Axis) (length : ℕ) (lower upper : Corner) (v
   unfolding spotBetween
   upper-dry e h = rw (e, h)
 
--- ---- the corner at a place is the one there, or one made for it: in either case it has that place
+-- ---- the place on an edge is that of its two corners
 
-first-place : (p : Place) (d : Corner) (cs : List Corner) → placeOf d ≡ p → placeOf (first (λ c. same p (placeOf c)) d cs) ≡ p
-first-place p d [] h = h
-first-place p d (c ∷ cs) h = go (same p (placeOf c)) (same→ p (placeOf c)) (first-place p d cs h)
-  where
-    go : (b : Bool) → (T b → p ≡ placeOf c) → placeOf (first (λ c. same p (placeOf c)) d cs) ≡ p
-        → placeOf (cond b c (first (λ c. same p (placeOf c)) d cs)) ≡ p
-    go true e r = sym (e tt)
-    go false e r = r
-
-pub corner-place : (corners : List Corner) (p : Place) → placeOf (cornerAt corners p) ≡ p
-unfolding cornerAt
-corner-place corners p = first-place p (record { x = p .x; y = p .y; z = p .z; sounding = fin false 0 (pos 0) }) corners refl
-
--- so the place on an edge is that of its two corners
 pub spot-on : (corners : List Corner) (clearance : Float) (e : CellEdge)
     → spotBetween clearance (e .axis) (2 ^ e .level) (cornerAt corners (e .low)) (cornerAt corners (upperEnd e)) ≡ spotOn corners clearance e
 unfolding spotBetween spotOn
-spot-on corners clearance e = rw (corner-place corners (e .low))
+spot-on corners clearance e = rw (corner-there corners (e .low))

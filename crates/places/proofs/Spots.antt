@@ -21,7 +21,8 @@ use Rattle.rules.specs.Edges.{CellEdge, upperEnd, odd, float, fraction, moving,
 use Rattle.rules.specs.Outputs.{inRange, coordinates}
 use Rattle.rules.specs.AwashPlaces.{dryCorner, wetCorner, cornerSpot, unsigned, PlaceByEnds}
 use Rattle.rules.specs.declared.Corner.{Corner}
-use Rattle.places.proofs.Reckoned.{way, corner-place}
+use Rattle.octree.proofs.Corners.{corner-there}
+use Rattle.places.proofs.Reckoned.{way}
 use Rattle.places.proofs.Bound.{Sounding, Ends, fraction-part, fraction-zero, way-zero, up-moved, down-moved}
 
 -- ---- spots
@@ -119,20 +120,20 @@ module _ (corners : List Corner) (clearance : Float) (e : CellEdge) where
   placed fit c l u t = go (one-wet (wet clearance lower) (wet clearance upper) t)
     where
       at-lower : low ≡ along (e .axis) (placeOf lower)
-      at-lower = ap (along (e .axis)) (sym (corner-place corners (e .low)))
+      at-lower = ap (along (e .axis)) (sym (corner-there corners (e .low)))
 
       at-upper : high ≡ along (e .axis) (placeOf upper)
-      at-upper = sym (along-put (e .axis) _ (e .low)) ∙ ap (along (e .axis)) (sym (corner-place corners (upperEnd e)))
+      at-upper = sym (along-put (e .axis) _ (e .low)) ∙ ap (along (e .axis)) (sym (corner-there corners (upperEnd e)))
 
       go : ((wet clearance lower ≡ false) × (wet clearance upper ≡ true)) ⊎ ((wet clearance lower ≡ true) × (wet clearance upper ≡ false))
           → PlaceByEnds clearance e (dryCorner corners clearance e) (wetCorner corners clearance e) (spotOn corners clearance e)
       go (inl (p, q)) =
           let o : Ends clearance lower upper = record { clear = c; dry-end = l; wet-end = u; is-dry = p; is-wet = q } in
           rw q
-          (by-ends fit lower upper o low (put-along (e .axis) (e .low) ∙ sym (corner-place corners (e .low)))
+          (by-ends fit lower upper o low (put-along (e .axis) (e .low) ∙ sym (corner-there corners (e .low)))
           (up-moved clearance (e .axis) low (2 ^ e .level) lower upper fit o (pow-pos (e .level)) at-lower at-upper))
       go (inr (p, q)) =
           let o : Ends clearance upper lower = record { clear = c; dry-end = u; wet-end = l; is-dry = q; is-wet = p } in
           rw q
-          (by-ends fit upper lower o high (sym (corner-place corners (upperEnd e)))
+          (by-ends fit upper lower o high (sym (corner-there corners (upperEnd e)))
           (down-moved clearance (e .axis) low (2 ^ e .level) upper lower fit o at-upper at-lower))

@@ -1,11 +1,13 @@
 // The tables' records as numbers: bytes, entries and corners, each read at its place in the lent bytes. Uses rules.
 ghost use mathlib.Core.Path.{_≡_};
-ghost use mathlib.Core.Bool.{true};
+ghost use mathlib.Core.Bool.{true, _||_};
 ghost use Prim.Native.Nat.{_+_, _*_, _≤_, _<_, _/_};
+ghost use lib.Dec.{eqb};
 ghost use lib.ListN.{length};
 ghost use lib.Ieee.{binary32, ofBits};
 ghost use Rattle.base.specs.Lists.{little, bytes};
 ghost use Rattle.rules.specs.Survey.{entry, cornerRecord, placeOf, wet};
+ghost use Rattle.rules.specs.OpenAtBox.{isOuter};
 ghost use Rattle.rules.specs.Outputs.{inRange, rising};
 ghost use Rattle.records.specs.Keys.{keyOf, placesOf};
 use rules::Corner;
@@ -70,6 +72,20 @@ pub fn is_wet(c: Corner, clearance: f32) -> bool
     ensures { λ r. ⌜ r ≡ wet clearance c ⌝ }
 {
     c.sounding > clearance
+}
+
+// A coordinate at an end of the box.
+fn is_end(v: u16) -> bool
+    ensures { λ r. ⌜ r ≡ eqb v 0 || eqb v 1024 ⌝ }
+{
+    v == 0 || v == 1024
+}
+
+// A corner is on an outer face of the box.
+pub fn is_outer(c: Corner) -> bool
+    ensures { λ r. ⌜ r ≡ isOuter (placeOf c) ⌝ }
+{
+    is_end(c.x) || (is_end(c.y) || is_end(c.z))
 }
 
 // Finite and not beyond 1,048,576 either way.

@@ -38,9 +38,9 @@ awash =
     -- every corner awash: no points; the same at the greatest clearance
     example split (λ p. 0) (drawing 3 3) (0 ∷ 0 ∷ 0 ∷ untouched 3 3) ∷
     exampleAt greatest leaf (λ p. greatest) (drawing 3 3) (0 ∷ 0 ∷ 0 ∷ untouched 3 3) ∷
-    -- one corner by the least number above the clearance: wet, and t is 1 by rounding; by the greatest below it: dry
-    example leaf (at (place 0 0 0 ∷ []) aboveZero minusOne) (drawing 9 3) (0 ∷ 3 ∷ 1 ∷ replicate 9 0 ++ 0 ∷ 1 ∷ 2 ∷ []) ∷
-    example leaf (at (place 0 0 0 ∷ []) belowZero minusOne) (drawing 9 3) (0 ∷ 0 ∷ 0 ∷ untouched 9 3) ∷
+    -- the centre by the least number above the clearance: wet, and t is 1 by rounding; by the greatest below it: dry
+    example split (at (place 512 512 512 ∷ []) aboveZero minusOne) (drawing 18 24) (0 ∷ 6 ∷ 8 ∷ replicate 18 f512 ++ eight) ∷
+    example split (at (place 512 512 512 ∷ []) belowZero minusOne) (drawing 3 3) (0 ∷ 0 ∷ 0 ∷ untouched 3 3) ∷
     -- an enquiry at the least clearance: only what lies above the least sounding is wet
     exampleAt least leaf (at (place 0 0 0 ∷ []) minusOne least) (asking 0 (place 0 0 0) 1024) (0 ∷ 0 ∷ f1024 ∷ 0 ∷ 0 ∷ 1 ∷ []) ∷
     -- t, the dry end and the place: awash with the wet end higher, then lower; at clearance -0, t is -0, and no coordinate is

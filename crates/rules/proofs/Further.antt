@@ -1,5 +1,5 @@
 -- Further surveys under the same statement: drawings and enquiries that tell wrong rules apart which the starred ones let pass; every refusal
--- from 1 to 11; and which one is given where two apply.
+-- from 1 to 11; and which one is given where two apply. Refusal 12 is in OpenAtBox.antt.
 -- Assumes nothing.
 use Prim.Native.Nat.{ℕ, _+_, _-_, _*_}
 use mathlib.Core.List.{List, [], _∷_, _++_}
@@ -125,9 +125,9 @@ refusals =
     refusedAt beyond 8 leaf oneWet ∷
     refusedAt minusBeyond 8 leaf oneWet ∷
     exampleAt greatest leaf oneWet (drawing 3 3) (0 ∷ 0 ∷ 0 ∷ untouched 3 3) ∷
-    -- 9, 10: a point slice, then a triangle slice, that is too short by one element
-    example leaf oneWet (drawing 8 3) (9 ∷ 3 ∷ 1 ∷ untouched 8 3) ∷
-    example leaf oneWet (drawing 9 2) (10 ∷ 3 ∷ 1 ∷ untouched 9 2) ∷
+    -- 9, 10: a point slice, then a triangle slice, without elements
+    example split centre (drawing 0 24) (9 ∷ 6 ∷ 8 ∷ untouched 0 24) ∷
+    example split centre (drawing 18 0) (10 ∷ 6 ∷ 8 ∷ untouched 18 0) ∷
     -- 11: a length that is no power of two, an edge that no cell has
     example leaf oneWet (asking 0 (place 0 0 0) 1000) (11 ∷ []) ∷
     example leaf oneWet (asking 0 (place 0 0 0) 512) (11 ∷ []) ∷ []
@@ -147,7 +147,7 @@ lowest =
     -- 7, 8 and 9: one corner is wet, by a sounding beyond the greatest, at a clearance beyond it
     refusedAt beyond 7 leaf (at (place 0 0 0 ∷ []) infinity minusOne) ∷
     -- 9 and 10
-    example leaf oneWet (drawing 8 2) (9 ∷ 3 ∷ 1 ∷ untouched 8 2) ∷
+    example split centre (drawing 17 23) (9 ∷ 6 ∷ 8 ∷ untouched 17 23) ∷
     -- 7 and 11, 8 and 11
     example leaf (λ p. notANumber) (asking 3 (place 0 0 0) 1024) (7 ∷ []) ∷
     exampleAt notANumber leaf oneWet (asking 3 (place 0 0 0) 1024) (8 ∷ []) ∷
@@ -161,9 +161,9 @@ unfolding right drawings centre
 drawings-right = each drawings tt
 
 pub refusals-right : Each Right refusals
-unfolding right refusals
+unfolding right refusals centre
 refusals-right = each refusals tt
 
 pub lowest-right : Each Right lowest
-unfolding right lowest
+unfolding right lowest centre
 lowest-right = each lowest tt

@@ -3,3 +3,4 @@ pub mod Starred
 pub mod Further
 pub mod WhichEnd
 pub mod Awash
+pub mod OpenAtBox

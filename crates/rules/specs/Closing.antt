@@ -1,4 +1,4 @@
--- Document 01, "What closing says", with demand 3 of the request as the record `Closed`.
+-- Document 01, "What closing says", with demand 3 of the request as the record `Closed`: without exception, as request 3 of document 02 wants it.
 use Prim.Native.Nat.{ℕ, zero, suc, _+_, _*_, _<_, _≤_}
 use mathlib.Core.Path.{_≡_}
 use mathlib.Core.Bool.{Bool, not, _&&_, _||_}
@@ -56,11 +56,8 @@ runs p q ts = sum (run (step p q)) ts
 abbrev pub meets : ℕ → Triangle → Bool
 meets p t = eqb p (t .0) || (eqb p (t .1) || eqb p (t .2))
 
--- Demand 3, of a survey at a clearance, a point count and triangles.
-pub record Closed (s : Survey) (count : ℕ) (triangles : List Triangle) : Type 0 where
-  -- for every two crossing points whose edges don't both lie in one outer face of the box, the triangles, counted over the whole drawing, run
-  -- from the first to the second exactly as often as from the second to the first
-  pub balance : (e f : CellEdge) (p q : ℕ) → Carries s e p → Carries s f q → T (not (inOneFace e f)) → runs p q triangles ≡ runs q p triangles
+-- What demand 3 says of points, of a survey at a clearance, a point count and triangles.
+pub record Carried (s : Survey) (count : ℕ) (triangles : List Triangle) : Type 0 where
   -- every undivided edge with one wet and one dry end carries exactly one crossing point, met by some triangle
   pub crossing : (e : CellEdge) → T (isUndivided s e) → T (isOdd s e)
       → (p : ℕ) × (p < count) × Carries s e p × ((q : ℕ) → Carries s e q → q ≡ p) × T (any (meets p) triangles)
@@ -70,6 +67,19 @@ pub record Closed (s : Survey) (count : ℕ) (triangles : List Triangle) : Type 
   pub alone : (p : ℕ) → p < count → (e : CellEdge) × Carries s e p × ((f : CellEdge) → Carries s f p → f ≡ e)
   -- the point count is the number of such edges
   pub counted : count ≡ length (keep (λ e. isUndivided s e && isOdd s e) (allEdges (s .cells)))
+
+-- Demand 3 without exception.
+pub record Closed (s : Survey) (count : ℕ) (triangles : List Triangle) : Type 0 where
+  -- for every two crossing points the triangles, counted over the whole drawing, run from the first to the second exactly as often as from the
+  -- second to the first
+  pub balance : (p q : ℕ) → p < count → q < count → runs p q triangles ≡ runs q p triangles
+  pub carried : Carried s count triangles
+
+-- Demand 3 with document 01's exception, of whatever is accepted: an open pool too, which is not drawn.
+pub record ClosedInside (s : Survey) (count : ℕ) (triangles : List Triangle) : Type 0 where
+  -- the same balance, for every two crossing points whose edges don't both lie in one outer face of the box
+  pub balance : (e f : CellEdge) (p q : ℕ) → Carries s e p → Carries s f q → T (not (inOneFace e f)) → runs p q triangles ≡ runs q p triangles
+  pub carried : Carried s count triangles
 
 -- the triangles in the first elements of a slice, three for each of n
 abbrev pub trianglesIn : ℕ → List ℕ → List Triangle

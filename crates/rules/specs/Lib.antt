@@ -3,6 +3,7 @@ pub mod Survey
 pub mod Edges
 pub mod Steps
 pub mod WhichEnd
+pub mod OpenAtBox
 pub mod Outputs
 pub mod Closing
 pub mod StepByAnswers

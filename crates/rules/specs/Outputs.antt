@@ -1,5 +1,5 @@
--- Document 01, "Outputs and refusals": the checks in their order, and what each call gives for every input. The enquiry's answer has document 02's wet end
--- (request 1) too.
+-- Document 01, "Outputs and refusals": the checks in their order, and what each call gives for every input. Of document 02, the enquiry's answer has the wet end
+-- (request 1), and drawing has check 12 (request 3).
 use Prim.Native.Nat.{ℕ, suc, _+_, _*_, _%_, _^_}
 use mathlib.Core.Bool.{Bool, true, false, not, _&&_, _||_, cond}
 use mathlib.Core.List.{List, [], _∷_, _++_, map}
@@ -13,6 +13,7 @@ use Rattle.rules.specs.Survey.{Cell, entries, cellsOf, cellCorners, corn
 use Rattle.rules.specs.Edges.{CellEdge, edge, isEdge, odd, pointEdges, numberOf, carrier, Spot, spotOn, OnEdge}
 use Rattle.rules.specs.Steps.{saddleCut, Triangle, allTriangles}
 use Rattle.rules.specs.WhichEnd.{wetEnd}
+use Rattle.rules.specs.OpenAtBox.{openAtBox}
 use Rattle.rules.specs.declared.End.{End}
 use Rattle.rules.specs.declared.Edge.the-variants.{Even, Crossing}
 use Rattle.rules.specs.declared.Answer.{Answer}
@@ -89,6 +90,16 @@ unfoldable pub accepted : List ℕ → List ℕ → Float → Bool
 unfolding checks
 accepted tc tk clearance = eqb (firstOf (checks tc tk clearance)) 0
 
+-- the checks of drawing but those of the slices, which come after: 12 stands between 8 and 9
+unfoldable pub drawingChecks : List ℕ → List ℕ → Float → List (ℕ × Bool)
+unfolding checks openAtBox
+drawingChecks tc tk clearance = checks tc tk clearance ++ (12, openAtBox tk clearance) ∷ []
+
+-- drawable: accepted, and not open at the box
+unfoldable pub drawable : List ℕ → List ℕ → Float → Bool
+unfolding drawingChecks
+drawable tc tk clearance = eqb (firstOf (drawingChecks tc tk clearance)) 0
+
 -- the survey of two tables at a clearance, as the rules see it
 unfoldable pub surveyOf : List ℕ → List ℕ → Float → Survey
 unfolding cellsOf cornersOf wetAt saddleCut
@@ -123,16 +134,16 @@ written new slice = new ++ drop (length new) slice
 
 -- drawing, of what the two slices hold before
 unfoldable pub draw : List ℕ → List ℕ → Float → List Float → List ℕ → Drawing
-unfolding checks accepted surveyOf pointEdges allTriangles pointFloats triangleNumbers
+unfolding drawingChecks drawable surveyOf pointEdges allTriangles pointFloats triangleNumbers
 draw tc tk clearance ps ts =
     let s = surveyOf tc tk clearance in
     let n = length (pointEdges s) in
     let m = length (allTriangles s) in
-    let number = firstOf (checks tc tk clearance ++ (9, ltb (length ps) (3 * n)) ∷ (10, ltb (length ts) (3 * m)) ∷ []) in
+    let number = firstOf (drawingChecks tc tk clearance ++ (9, ltb (length ps) (3 * n)) ∷ (10, ltb (length ts) (3 * m)) ∷ []) in
     let newPoints = written (pointFloats tc tk clearance) ps in
     let newTriangles = written (triangleNumbers tc tk clearance) ts in
     record {
-      result = record { number = number; points = cond (accepted tc tk clearance) n 0; triangles = cond (accepted tc tk clearance) m 0 };
+      result = record { number = number; points = cond (drawable tc tk clearance) n 0; triangles = cond (drawable tc tk clearance) m 0 };
       points = cond (eqb number 0) newPoints ps;
       triangles = cond (eqb number 0) newTriangles ts;
     }

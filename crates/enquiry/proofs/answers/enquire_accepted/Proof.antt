@@ -51,7 +51,7 @@ edge-answer-requires c κs =
     let wets = marked c in
     let levels = noted (wets .before) in
     let s = at-start (levels .before) in
-    (s .pre .0, (wets .fill-wets .ensures, (levels .fill-levels .ensures, s .pre .1 .1 .1)))
+    (s .pre .0, (wets .fill-wets .ensures .1, (levels .fill-levels .ensures, s .pre .1 .1 .1)))
 
 returns : tie.Need-returns
 returns c = c .edge-answer .ensures

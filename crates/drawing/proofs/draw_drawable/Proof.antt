@@ -1,32 +1,33 @@
--- `drawing::draw_accepted` meets its contract: where a slice is too short nothing is written.
+-- `drawing::draw_drawable` meets its contract: where a slice is too short nothing is written.
 use Prim.Native.Nat.{ℕ, _*_, _≤_}
-use mathlib.Core.Path.{sym, subst}
+use mathlib.Core.Path.{_≡_, sym, subst}
+use mathlib.Core.Bool.{true}
 use mathlib.Core.List.{List}
 use native.Mathlib.Omega.{arith}
 use lib.Dec.{leb}
 use lib.ListN.{length}
 use Rattle.rules.specs.Steps.{allTriangles}
-use Rattle.rules.specs.Outputs.{surveyOf}
+use Rattle.rules.specs.Outputs.{accepted, surveyOf}
 use Rattle.leaves.proofs.Leaves.{points-few}
 use Rattle.triangles.specs.Settled.{Settled}
 use Rattle.triangles.proofs.Settling.{left-alone, written-over}
 use Rattle.drawing.specs.Draws.{lent, Draws}
-use Rattle.drawing.proofs.Passed.{levels-fresh, few-cells, entries-follow, none-deep}
+use Rattle.drawing.proofs.Passed.{drawable-accepted, levels-fresh, few-cells, entries-follow, none-deep}
 use Rattle.drawing.proofs.Outcome.{short, fits, drawn}
 use Rattle.drawing.proofs.Settling.{known, not-written, is-written}
 use borrow.Author.Needs.{needs}
-use Rattle.drawing.proofs.draw_accepted.Statement.{statement}
-use Rattle.drawing.proofs.draw_accepted.Tie as tie
+use Rattle.drawing.proofs.draw_drawable.Statement.{statement}
+use Rattle.drawing.proofs.draw_drawable.Tie as tie
 
 -- from each call to the one before it
 abbrev start : tie.After-fill-tables → tie.Start
 start c = c .before .before .before .before .before .before .before .before .before .before .before
 
 abbrev filled : tie.After-fill → tie.After-fill-tables
-filled c = c .before .before .before .before .before .before
+filled c = c .before .before .before .before .before
 
 abbrev reached : tie.After-fill2 → tie.After-fill
-reached c = c .before .before .before .before .before
+reached c = c .before .before .before .before
 
 abbrev crossed : tie.After-draw-arg → tie.After-fill2
 crossed c = c .before .before .before .before .before
@@ -34,12 +35,16 @@ crossed c = c .before .before .before .before .before
 abbrev told : tie.After-shortage → tie.After-draw
 told c = c .before .before .before
 
+-- the survey is accepted
+ok : (s : tie.Start) → accepted (s .args .cells .now) (s .args .corners .now) (s .args .clearance) ≡ true
+ok s = let a = s .args in drawable-accepted (a .cells .now) (a .corners .now) (a .clearance) (s .pre .0)
+
 -- the points are few
 count-few : (f : tie.After-fill-tables) → f .fill-tables .result ≤ 14616
 count-few f =
     let s = start f in
     let a = s .args in
-    omega (arith, f .fill-tables .ensures .count, points-few (a .cells .now) (a .corners .now) (a .clearance) (s .pre .0))
+    omega (arith, f .fill-tables .ensures .count, points-few (a .cells .now) (a .corners .now) (a .clearance) (ok s))
 
 slice-aggregate-fill-tables : tie.Need-slice-aggregate-fill-tables
 slice-aggregate-fill-tables c = search needs
@@ -50,26 +55,22 @@ slice-aggregate-fill-tables-2 c = search needs
 slice-aggregate-fill-tables-3 : tie.Need-slice-aggregate-fill-tables-3
 slice-aggregate-fill-tables-3 c = search needs
 
-slice-aggregate-fill-tables-4 : tie.Need-slice-aggregate-fill-tables-4
-slice-aggregate-fill-tables-4 c = search needs
-
 fill-tables-requires : tie.Need-fill-tables-requires
 fill-tables-requires c κs =
     let s = c .before .before .before .before .before .before .before .before .before .before in
     let a = s .args in
-    (s .pre .0, (s .pre .1, (levels-fresh (a .cells .now) (a .corners .now) (a .clearance) (s .pre .0), (search needs, search needs, search needs))))
+    (ok s, (s .pre .1, (levels-fresh (a .cells .now) (a .corners .now) (a .clearance) (ok s), (search needs, search needs))))
 
 slice-aggregate-fill : tie.Need-slice-aggregate-fill
 slice-aggregate-fill c = search needs
 
 fill-requires : tie.Need-fill-requires
 fill-requires c κs =
-    let s = start (c .before .before .before .before .before) in
+    let s = start (c .before .before .before .before) in
     let a = s .args in
-    let ok = s .pre .0 in
-    let few = few-cells (a .cells .now) (a .corners .now) (a .clearance) ok in (
-      entries-follow (a .cells .now) (a .corners .now) (a .clearance) ok,
-      (none-deep (a .cells .now) (a .corners .now) (a .clearance) ok, (few, search (needs, few))),
+    let few = few-cells (a .cells .now) (a .corners .now) (a .clearance) (ok s) in (
+      entries-follow (a .cells .now) (a .corners .now) (a .clearance) (ok s),
+      (none-deep (a .cells .now) (a .corners .now) (a .clearance) (ok s), (few, search (needs, few))),
     )
 
 slice-aggregate-fill-2 : tie.Need-slice-aggregate-fill-2
@@ -78,18 +79,15 @@ slice-aggregate-fill-2 c = search needs
 slice-aggregate-fill-3 : tie.Need-slice-aggregate-fill-3
 slice-aggregate-fill-3 c = search needs
 
-slice-aggregate-fill-4 : tie.Need-slice-aggregate-fill-4
-slice-aggregate-fill-4 c = search needs
-
 fill-requires-2 : tie.Need-fill-requires-2
 fill-requires-2 c κs =
-    let t = filled (c .before .before .before .before) in
+    let t = filled (c .before .before .before) in
     let s = start t in
     let a = s .args in
     let f = t .fill-tables .ensures in
-    let (laid, room, octants) = s .pre .1 in
-    let few = few-cells (a .cells .now) (a .corners .now) (a .clearance) (s .pre .0) in (
-      record { fit = s .pre .0; marks = f .wet; points = f .slot; cell-corners = octants; cell-levels = laid; laid-room = room },
+    let r = s .pre .1 in
+    let few = few-cells (a .cells .now) (a .corners .now) (a .clearance) (ok s) in (
+      record { fit = ok s; marks = r .wet; points = f .slot; cell-corners = r .corner; cell-levels = r .cell; laid-room = r .cell-room },
       search (needs, few),
     )
 
@@ -111,7 +109,7 @@ draw-requires c κs =
     let t = filled (reached x) in
     let s = start t in
     let a = s .args in
-    known (a .cells .now) (a .corners .now) (a .clearance) (s .pre .0) (reached x .fill .ensures) (x .fill2 .ensures) (t .fill-tables .ensures)
+    known (a .cells .now) (a .corners .now) (a .clearance) (ok s) (reached x .fill .ensures) (x .fill2 .ensures) (t .fill-tables .ensures)
 
 shortage-requires : tie.Need-shortage-requires
 shortage-requires c κs = omega (arith, count-few (filled (reached (crossed (c .before .before .before)))))
@@ -145,7 +143,7 @@ module _ (c : tie.After-shortage) where
   settled =
       let a = s .args in
       told c .draw .ensures
-      (known (a .cells .now) (a .corners .now) (a .clearance) (s .pre .0) (reached x .fill .ensures) (x .fill2 .ensures) (t .fill-tables .ensures))
+      (known (a .cells .now) (a .corners .now) (a .clearance) (ok s) (reached x .fill .ensures) (x .fill2 .ensures) (t .fill-tables .ensures))
 
 result-requires : tie.Need-result-requires
 result-requires c κs = count-few (t (c .before))
@@ -180,7 +178,7 @@ write-points-requires c κs =
     let f = t q .fill-tables .ensures in
     let room = fits (a .cells .now) (a .corners .now) (a .clearance) (a .points .now) (a .triangles .now) (s q .pre .0) (n q) (m q) (number q)
     (f .count) (settled q .counted) (q .shortage .ensures) (e .if1 .left) in
-    (s q .pre .0, (f .slot .levelled, (f .carrier, (f .count, room .0))))
+    (ok (s q), (f .slot .levelled, (f .carrier, (f .count, room .0))))
 
 result-requires-2 : tie.Need-result-requires-2
 result-requires-2 c κs = count-few (t (c .before .before .before .before .before .before .before))
@@ -206,20 +204,18 @@ returns-2 c =
     (written-over (a .cells .now) (a .corners .now) (a .clearance) (settled q)
     (is-written (length (a .points .now)) (length (a .triangles .now)) (3 * n q) (3 * m q) (number q) (q .shortage .ensures) zero)))
 
-pub draw-accepted-spec : {M : Type 1} → statement M
-draw-accepted-spec =
+pub draw-drawable-spec : {M : Type 1} → statement M
+draw-drawable-spec =
     tie.close
     (tie.spec
     slice-aggregate-fill-tables
     slice-aggregate-fill-tables-2
     slice-aggregate-fill-tables-3
-    slice-aggregate-fill-tables-4
     fill-tables-requires
     slice-aggregate-fill
     fill-requires
     slice-aggregate-fill-2
     slice-aggregate-fill-3
-    slice-aggregate-fill-4
     fill-requires-2
     mul-write
     slice-aggregate-draw
