@@ -1,6 +1,7 @@
 -- The drawings of specs/Wrong.antt are not closed, so the theorem is true of none of them.
 --     wrong-open        not closed on a drawable survey: a coarse leaf uses its own side; copied steps keep their direction; open ends are paired
 --                       with the nearest point; a leaf is left out
+--     cut-off-open      the drawing of the rules on a survey that is accepted and open at the box is not closed: without check 12 the theorem would be false
 --     left-out-open     a fan without its first triangle is no lawful cutting
 -- Assumes nothing.
 use Prim.Native.Nat.{ℕ, _<_}
@@ -16,10 +17,10 @@ use Rattle.base.proofs.Lists.{In, any→in, all→in, in-count}
 use Rattle.rules.specs.Survey.{Survey}
 use Rattle.rules.specs.Edges.{pointEdges}
 use Rattle.rules.specs.Steps.{leafLoops, Triangle, fan, trianglesBy, allTriangles}
-use Rattle.rules.specs.Outputs.{drawable, surveyOf}
+use Rattle.rules.specs.Outputs.{accepted, drawable, surveyOf}
 use Rattle.rules.specs.Closing.{step, runs, Closed}
-use Rattle.rules.proofs.Surveys.{place, two, minusOne, at, cornerTable}
-use Rattle.rules.proofs.Further.{twoPairs}
+use Rattle.rules.proofs.Surveys.{place, two, minusOne, at, cornerTable, leaf}
+use Rattle.rules.proofs.Further.{twoPairs, oneWet}
 use Rattle.octree.specs.Lawful.{Lawful}
 use Rattle.octree.proofs.Accepted.{drawable→, lawful}
 use Rattle.octree.proofs.Points.{counted}
@@ -82,6 +83,35 @@ slits-in = tt
 -- none of the wrong drawings of it is closed
 pub wrong-open : (w : Way) → In w wrong → (n : ℕ) → Closed basin n (drawnBy w basin) → ⊥
 wrong-open w i n c = slits-open basin basin-lawful n (drawnBy w basin) (all→in (λ w. slits basin (drawnBy w basin)) wrong slits-in w i) c
+
+-- ---- a pool cut off by the box: one leaf, only (0,0,0) wet
+
+abbrev pub cutOffCorners : List ℕ
+cutOffCorners = cornerTable (leaf .corners) oneWet
+
+unfoldable pub cutOff : Survey
+unfolding surveyOf ofBits
+cutOff = surveyOf (leaf .cells) cutOffCorners (ofBits binary32 0)
+
+-- it is accepted, and not drawable
+pub cut-off-accepted : T (accepted (leaf .cells) cutOffCorners (ofBits binary32 0))
+unfolding accepted ofBits
+cut-off-accepted = tt
+
+pub cut-off-refused : T (not (drawable (leaf .cells) cutOffCorners (ofBits binary32 0)))
+unfolding drawable ofBits
+cut-off-refused = tt
+
+cut-off-slits : T (slits cutOff (allTriangles cutOff))
+unfolding slits cutOff allTriangles
+cut-off-slits = tt
+
+-- its surface has an open end
+pub cut-off-open : (n : ℕ) → Closed cutOff n (allTriangles cutOff) → ⊥
+unfolding cutOff
+cut-off-open n c = slits-open cutOff (lawful (leaf .cells) cutOffCorners (ofBits binary32 0) cut-off-accepted) n (allTriangles cutOff) cut-off-slits c
+
+-- ---- a rule that cuts loops
 
 -- a fan without its first triangle: of a loop of three points nothing is left, and the loop's steps are lost
 pub left-out-open : Closes (λ l. drop 1 (fan l)) → ⊥
