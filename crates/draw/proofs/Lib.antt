@@ -1,2 +1,3 @@
 pub mod Listing
 pub mod Twin
+pub mod OpenPool
