@@ -43,8 +43,12 @@
  *
  * REFUSALS
  *
- * What can't be drawn is refused by a number, enum clearance_refusal below. Checks run in rising number, and the first that applies is returned. A
- * refused call has written nothing.
+ * What can't be drawn is refused by a number, enum clearance_refusal below. Checks run in rising number, but for 12, which stands between 8 and 9; the
+ * first that applies is returned. A refused call has written nothing.
+ *
+ * So a number's size does not tell what it means. A drawing is there to be had with 0, CLEARANCE_POINT_SLICE and CLEARANCE_TRIANGLE_SLICE, and with
+ * nothing else: ask for these by name. A program that takes every number from CLEARANCE_POINT_SLICE on for a drawing takes a pool that is open at the
+ * box (12) for an empty one.
  */
 #ifndef CLEARANCE_H
 #define CLEARANCE_H
@@ -72,11 +76,13 @@ enum clearance_refusal {
     CLEARANCE_CLEARANCE = 8, /* the clearance is not finite or beyond ±1,048,576 */
     CLEARANCE_POINT_SLICE = 9, /* the point slice is too short */
     CLEARANCE_TRIANGLE_SLICE = 10, /* the triangle slice is too short */
-    CLEARANCE_NO_EDGE = 11 /* no cell has this edge */
+    CLEARANCE_NO_EDGE = 11, /* no cell has this edge */
+    CLEARANCE_OPEN_AT_BOX = 12 /* the pool runs out of the surveyed box (a corner on an outer face is wet) */
 };
 
 /*
- * Checks a survey by itself. Returns 0, or the first refusal of 1 to 7 that applies.
+ * Checks a survey by itself. Returns 0, or the first refusal of 1 to 7 that applies. A survey that passes may still be refused for drawing by 12: whether
+ * a corner on an outer face is wet depends on the clearance.
  */
 uint32_t clearance_check(const uint8_t *cells, size_t cells_length, const uint8_t *corners, size_t corners_length);
 
@@ -99,15 +105,16 @@ struct clearance_reply {
 
 /*
  * Asks about the edge of some cell that runs along an axis (0, 1, 2 for x, y, z) from its lower end (x, y, z) over a length. If it is divided and crossing,
- * its point is that of the half that is crossing, and so on down. Numbers that are no cell's edge are refused (11).
+ * its point is that of the half that is crossing, and so on down. Numbers that are no cell's edge are refused (11). A survey that is open at the box (12)
+ * is answered for as any other.
  */
 struct clearance_reply clearance_enquire(const uint8_t *cells, size_t cells_length, const uint8_t *corners, size_t corners_length,
     float clearance, uint32_t axis, uint32_t x, uint32_t y, uint32_t z, uint32_t length);
 
 /* What drawing returns. */
 struct clearance_counts {
-    uint32_t number; /* 0 if drawn, else the first refusal of 1 to 10 that applies */
-    uint32_t points; /* how many points and triangles the drawing has, not elements; with refusals 1 to 8 both are 0, */
+    uint32_t number; /* 0 if drawn, else the first refusal of 1 to 8, 12, 9 or 10, in this order, that applies */
+    uint32_t points; /* how many points and triangles the drawing has, not elements; with refusals 1 to 8 and 12 both are 0, */
     uint32_t triangles; /* with 9 and 10 both are what the drawing needs */
 };
 
@@ -117,11 +124,14 @@ struct clearance_counts {
  *
  * Points rise by the axis of their edge (x, y, z), then by its lower end's z, y, x. Triangles come by the record number of their leaf.
  *
- * Each loop runs with wet corners on its right, seen from outside its leaf, so the surface as a whole turns counter-clockwise seen from the dry side: where
- * the box's outside is dry, the signed volume inside is not negative. This is tested, not proved. A single triangle of the fan over a bent loop may turn
- * the other way.
+ * A survey with a wet corner on an outer face of the box is refused (12), so that every drawing is closed: between any two points triangles run one way as
+ * often as the other. This is proved.
  *
- * To learn how long the slices must be, call with two slices of 0 elements: the result is 9 or 10 with both counts, or 0 where there is nothing to draw.
+ * Each loop runs with wet corners on its right, seen from outside its leaf, so the surface as a whole turns counter-clockwise seen from the dry side, and
+ * the signed volume inside is not negative. This is tested, not proved. A single triangle of the fan over a bent loop may turn the other way.
+ *
+ * To learn how long the slices must be, call with two slices of 0 elements: the result is 9 or 10 with both counts, 0 where there is nothing to draw, or
+ * any other number where the survey is refused.
  */
 struct clearance_counts clearance_draw(const uint8_t *cells, size_t cells_length, const uint8_t *corners, size_t corners_length,
     float clearance, float *points, size_t points_length, uint32_t *triangles, size_t triangles_length);

@@ -26,14 +26,15 @@ pub struct Subject {
 }
 
 impl Subject {
-    /// A lawful survey, with slices that its drawing just fills.
+    /// A survey that is drawn, with slices that its drawing just fills.
     pub fn new(survey: Survey) -> Subject {
-        let drawn = drawing::draw(&survey.cells, &survey.corners, survey.clearance, &mut [], &mut []);
+        let drawn = drawing::draw_to_vec(&survey.cells, &survey.corners, survey.clearance);
+        let drawing::Drawing { points, triangles } = drawn.expect("a survey that is drawn");
         Subject {
             enquiries: enquiries(&survey),
             survey,
-            point_slice: vec![0.0; 3 * drawn.points as usize],
-            triangle_slice: vec![0; 3 * drawn.triangles as usize],
+            point_slice: vec![0.0; points.len()],
+            triangle_slice: vec![0; triangles.len()],
         }
     }
 

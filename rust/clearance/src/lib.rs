@@ -3,7 +3,8 @@
 //! A survey is a cell table (an octree) and a corner table (a sounding at every corner of every cell), both as bytes. At a clearance the surface
 //! between wet and dry corners is drawn as points on the octree's edges and triangles between them. The calls are those of document 01, with what the
 //! requests of document 02 add and change; what they return, and what they write, is proved equal to the documents' rules for every input. What can't
-//! be drawn is refused by one of the eleven [refusals](Refusal).
+//! be drawn is refused by one of the twelve [refusals](Refusal). What is drawn is closed: between any two points triangles run one way as often as
+//! the other.
 //!
 //! Nothing is kept between calls and nothing is allocated inside them, so any number of threads may call. A call needs less than 512 KiB of stack.
 //!
@@ -21,28 +22,33 @@
 //! ```
 //! use clearance::{draw_to_vec, enquire, Edge, End, Refusal};
 //!
-//! // The box is one leaf, and only its corner at (0, 0, 0) is wet.
-//! let cells = 0u32.to_le_bytes();
+//! // The box is split once: record 1 is the first of its eight children. Of the 27 corners only that in the middle is wet.
+//! let cells: Vec<u8> = [1u32, 0, 0, 0, 0, 0, 0, 0, 0].iter().flat_map(|entry| entry.to_le_bytes()).collect();
 //! let mut corners = Vec::new();
-//! for place in 0..8u16 {
-//!     let sounding: f32 = if place == 0 { 1.0 } else { -1.0 };
-//!     for axis in 0..3 {
-//!         corners.extend((1024 * (place >> axis & 1)).to_le_bytes());
+//! for number in 0..27u16 {
+//!     for step in [1, 3, 9] {
+//!         corners.extend((512 * (number / step % 3)).to_le_bytes());
 //!     }
-//!     corners.extend(sounding.to_le_bytes());
+//!     corners.extend(if number == 13 { 1f32 } else { -1.0 }.to_le_bytes());
 //! }
 //!
 //! let mesh = draw_to_vec(&cells, &corners, 0.0)?;
-//! assert_eq!(mesh.points, [[512.0, 0.0, 0.0], [0.0, 512.0, 0.0], [0.0, 0.0, 512.0]]);
-//! assert_eq!(mesh.triangles, [[0, 1, 2]]);
+//! assert_eq!(mesh.points[..2], [[256.0, 512.0, 512.0], [768.0, 512.0, 512.0]]);
+//! assert_eq!(mesh.triangles, [[0, 4, 2], [1, 2, 4], [0, 3, 4], [1, 4, 3], [0, 2, 5], [1, 5, 2], [0, 5, 3], [1, 3, 5]]);
 //!
-//! let along_y = enquire(&cells, &corners, 0.0, 1, [0, 0, 0], 1024)?;
-//! assert_eq!(along_y, Edge::Crossing { number: 1, place: [0.0, 512.0, 0.0], wet_end: End::Lower });
+//! let along_y = enquire(&cells, &corners, 0.0, 1, [512, 512, 512], 512)?;
+//! assert_eq!(along_y, Edge::Crossing { number: 3, place: [512.0, 768.0, 512.0], wet_end: End::Lower });
 //!
 //! // At a clearance of 1 that corner is awash, and dry as all others are.
-//! assert_eq!(enquire(&cells, &corners, 1.0, 1, [0, 0, 0], 1024)?, Edge::Even);
+//! assert_eq!(enquire(&cells, &corners, 1.0, 1, [512, 512, 512], 512)?, Edge::Even);
 //!
-//! corners.truncate(70);
+//! // A pool that runs out of the box, here at its corner (0, 0, 0), is not drawn. Its edges may still be asked about.
+//! corners[6..10].copy_from_slice(&3f32.to_le_bytes());
+//! assert_eq!(draw_to_vec(&cells, &corners, 0.0), Err(Refusal::OpenAtBox));
+//! let along_x = enquire(&cells, &corners, 0.0, 0, [0, 0, 0], 512)?;
+//! assert_eq!(along_x, Edge::Crossing { number: 0, place: [384.0, 0.0, 0.0], wet_end: End::Lower });
+//!
+//! corners.truncate(260);
 //! assert_eq!(draw_to_vec(&cells, &corners, 0.0), Err(Refusal::CornerSet));
 //! # Ok::<(), Refusal>(())
 //! ```
@@ -57,7 +63,7 @@ mod refusal;
 pub use outputs::{Counts, Edge, End, Mesh, Refused};
 pub use refusal::Refusal;
 
-/// Checks a survey by itself.
+/// Checks a survey by itself. It may pass and yet not be drawn, since at some clearances a corner on an outer face is wet.
 ///
 /// ```
 /// let cells = std::fs::read("../../examples/twin/cells")?;
@@ -74,7 +80,8 @@ pub fn check(cells: &[u8], corners: &[u8]) -> Result<(), Refusal> {
     passed(exported::check(cells, corners))
 }
 
-/// Asks about the edge of some cell that runs along an axis (0 to 2 for x, y, z) from its lower end (x, y, z) over a length.
+/// Asks about the edge of some cell that runs along an axis (0 to 2 for x, y, z) from its lower end (x, y, z) over a length. A survey that is refused for
+/// drawing by [`Refusal::OpenAtBox`] is answered for too.
 ///
 /// ```
 /// use clearance::{enquire, Edge, End, Refusal};
@@ -136,8 +143,8 @@ pub fn enquire(
 ///
 /// # Errors
 ///
-/// The first refusal of 1 to 10 that applies; then neither slice was touched. With [`Refusal::PointSlice`] and [`Refusal::TriangleSlice`] come the
-/// counts that the drawing needs.
+/// The first refusal of 1 to 8, 12, 9 and 10, in this order, that applies; then neither slice was touched. With [`Refusal::PointSlice`] and
+/// [`Refusal::TriangleSlice`] come the counts that the drawing needs.
 pub fn draw(
     cells: &[u8],
     corners: &[u8],
@@ -164,7 +171,7 @@ pub fn draw(
 ///
 /// # Errors
 ///
-/// The first refusal of 1 to 8 that applies.
+/// The first refusal of 1 to 8 that applies; else [`Refusal::OpenAtBox`] where a corner on an outer face is wet.
 pub fn count(cells: &[u8], corners: &[u8], clearance: f32) -> Result<Counts, Refusal> {
     match draw(cells, corners, clearance, &mut [], &mut []) {
         Ok(counts) => Ok(counts),
@@ -186,7 +193,7 @@ pub fn count(cells: &[u8], corners: &[u8], clearance: f32) -> Result<Counts, Ref
 ///
 /// # Errors
 ///
-/// The first refusal of 1 to 8 that applies.
+/// The first refusal of 1 to 8 that applies; else [`Refusal::OpenAtBox`] where a corner on an outer face is wet.
 pub fn draw_to_vec(cells: &[u8], corners: &[u8], clearance: f32) -> Result<Mesh, Refusal> {
     let counts = count(cells, corners, clearance)?;
     let mut points = vec![[0.0; 3]; counts.points as usize];
@@ -202,7 +209,7 @@ fn passed(number: u32) -> Result<(), Refusal> {
     match number {
         0 => Ok(()),
         refused => {
-            Err(Refusal::from_number(refused).expect("the library returns 0 or a number of the table"))
+            Err(Refusal::from_number(refused).expect("the library returns 0 or the number of a refusal"))
         }
     }
 }

@@ -1,8 +1,12 @@
-//! The refusals of document 01's table, by name, number and words.
+//! The refusals of document 01's table and document 02's requests, by name, number and words.
 
 use std::fmt;
 
-/// Why a survey, a clearance, a lent slice or an edge is refused. Checks run in rising number, and the first that applies is given.
+/// Why a survey, a clearance, a lent slice or an edge is refused. Checks run in rising number, but for 12, which stands between 8 and 9; the first
+/// that applies is given.
+///
+/// So refusals compare by number and not by the order of checks: only [`PointSlice`](Refusal::PointSlice) and
+/// [`TriangleSlice`](Refusal::TriangleSlice) say that there is a drawing, and [`OpenAtBox`](Refusal::OpenAtBox) is above both.
 ///
 /// ```
 /// use clearance::Refusal;
@@ -37,11 +41,14 @@ pub enum Refusal {
     TriangleSlice = 10,
     /// No cell has the edge that was asked about.
     NoEdge = 11,
+    /// The pool runs out of the surveyed box: a corner on an outer face is wet. Only drawing refuses it; such a survey still passes its check and
+    /// serves the enquiry.
+    OpenAtBox = 12,
 }
 
 impl Refusal {
     /// All refusals, by rising number.
-    pub const ALL: [Refusal; 11] = [
+    pub const ALL: [Refusal; 12] = [
         Refusal::CellTable,
         Refusal::CornerTable,
         Refusal::CellEntry,
@@ -53,19 +60,20 @@ impl Refusal {
         Refusal::PointSlice,
         Refusal::TriangleSlice,
         Refusal::NoEdge,
+        Refusal::OpenAtBox,
     ];
 
-    /// The refusal's number in document 01's table: 1 to 11.
+    /// The refusal's number in the documents: 1 to 12.
     pub const fn number(self) -> u32 {
         self as u32
     }
 
-    /// The refusal of this number; `None` if the table has none.
+    /// The refusal of this number; `None` if there is none.
     ///
     /// ```
     /// use clearance::Refusal;
     ///
-    /// assert_eq!(Refusal::from_number(11), Some(Refusal::NoEdge));
+    /// assert_eq!(Refusal::from_number(12), Some(Refusal::OpenAtBox));
     /// assert_eq!(Refusal::from_number(0), None);
     /// ```
     pub fn from_number(number: u32) -> Option<Refusal> {
@@ -87,6 +95,7 @@ impl fmt::Display for Refusal {
             Refusal::PointSlice => "the point slice is too short",
             Refusal::TriangleSlice => "the triangle slice is too short",
             Refusal::NoEdge => "no cell has this edge",
+            Refusal::OpenAtBox => "the pool runs out of the surveyed box (a corner on an outer face is wet)",
         })
     }
 }

@@ -6,6 +6,8 @@ mod number;
 use clearance::{Edge, End, Refusal};
 use number::number;
 use surveys::plain::{self, Plain};
+use surveys::refusals::{self, OPEN_AT_BOX};
+use surveys::survey::on_outer_face;
 use surveys::{damage, document, generate, Survey};
 
 /// The answer as numbers, floats by their bits: the number returned, and for a crossing 1 + the point's number, its place and the wet end (1 lower, 2 upper).
@@ -57,9 +59,41 @@ fn places(survey: &Survey) -> impl Iterator<Item = [u32; 3]> + '_ {
 #[test]
 fn the_quarter_place() {
     let survey = document::quarter_place();
-    let answer = assert_same(&survey, 0, [0, 0, 0], 256, "dry -1 at 0, wet 3 at 256");
-    assert_eq!(answer, [0, 1, 64f32.to_bits(), 0, 0, 2]);
-    assert_eq!(assert_same(&survey, 3, [0, 0, 0], 256, "axis 3")[0], 11);
+    let answer = assert_same(&survey, 0, [0, 512, 512], 256, "dry -1 at 0, wet 3 at 256");
+    assert_eq!(answer, crossing(0, [64.0, 512.0, 512.0], true));
+    assert_eq!(assert_same(&survey, 3, [0, 512, 512], 256, "axis 3")[0], 11);
+    let at_box = document::quarter_place_at_box();
+    assert_not_drawn(&at_box, "on an edge of the box");
+    let answer = assert_same(&at_box, 0, [0, 0, 0], 256, "on an edge of the box");
+    assert_eq!(answer, crossing(0, [64.0, 0.0, 0.0], true));
+}
+
+/// Both drawings refuse a survey with a wet corner on an outer face.
+fn assert_not_drawn(Survey { cells, corners, clearance }: &Survey, what: &str) {
+    assert_eq!(number(clearance::draw_to_vec(cells, corners, *clearance)), OPEN_AT_BOX, "{what}");
+    assert_eq!(drawing::draw_to_vec(cells, corners, *clearance), Err(OPEN_AT_BOX), "{what}");
+}
+
+/// A survey that is not drawn for its one wet corner on an outer face serves the enquiry as any other: the edges at that corner, and many more.
+#[test]
+fn surveys_that_are_open_at_the_box() {
+    let mut crossings = 0;
+    for seed in 0..200 {
+        let survey = generate::one_wet_outside(seed);
+        let what = format!("one wet outside, seed {seed}");
+        assert_not_drawn(&survey, &what);
+        let plain = Plain::read(&survey);
+        let is_wet_outside = |end| on_outer_face(end) && plain.is_wet(end);
+        let at_wet = |edge: &&plain::Edge| is_wet_outside(edge.low()) || is_wet_outside(edge.high());
+        let others = plain.edges.iter().step_by(1 + plain.edges.len() / 20);
+        for edge in plain.edges.iter().filter(at_wet).chain(others) {
+            let (low, length) = (edge.low().map(u32::from), u32::from(edge.length));
+            let [number, is_crossing, ..] = assert_same(&survey, edge.axis as u32, low, length, &what);
+            assert_eq!(number, 0, "{what}: {edge:?}");
+            crossings += usize::from(is_crossing != 0);
+        }
+    }
+    assert!(crossings > 1_000, "{crossings} crossing edges");
 }
 
 #[test]
@@ -82,10 +116,13 @@ fn ground_awash_is_dry() {
 fn every_edge_and_many_that_no_cell_has() {
     let mut met = [0usize; 4];
     let mut divided = [0usize; 2];
-    for seed in 0..30 {
-        let survey = generate::small_survey(seed, 6);
+    let mut open = 0;
+    let any_outside = (0..25).map(|seed| generate::small_survey(seed, 6));
+    let dry_outside = (0..10).map(|seed| generate::small_interior(seed, 6));
+    for (number, survey) in any_outside.chain(dry_outside).enumerate() {
+        open += usize::from(refusals::of_drawing(&survey) == OPEN_AT_BOX);
         let plain = Plain::read(&survey);
-        let what = format!("seed {seed}");
+        let what = format!("survey {number}");
         for (place, _) in plain::corners(&survey.corners) {
             for (axis, level) in (0..3).flat_map(|axis| (0..=10).map(move |level| (axis, level))) {
                 match assert_same(&survey, axis, place.map(u32::from), 1 << level, &what) {
@@ -101,6 +138,7 @@ fn every_edge_and_many_that_no_cell_has() {
         }
     }
     assert!(met.iter().all(|&count| count > 300), "no edge, even, crossing with either wet end: {met:?}");
+    assert!((20..=25).contains(&open), "{open} of 35 surveys are refused for drawing");
     assert!(
         divided.iter().all(|&count| count > 30),
         "divided and crossing, with either wet end: {divided:?}"
@@ -110,7 +148,7 @@ fn every_edge_and_many_that_no_cell_has() {
 #[test]
 fn large_surveys() {
     for seed in 0..60 {
-        let survey = generate::survey(seed);
+        let survey = if seed % 2 == 0 { generate::survey(seed) } else { generate::interior(seed) };
         let what = format!("seed {seed}");
         for (n, place) in places(&survey).enumerate().step_by(7) {
             assert_same(&survey, (n % 3) as u32, place, 1 << (n % 11), &what);

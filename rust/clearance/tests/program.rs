@@ -95,9 +95,19 @@ fn listings_and_refusals() {
         ),
         "refused 1\n"
     );
-    for seed in 0..40 {
-        assert_printed(&program, &generate::survey(seed), &format!("survey, seed {seed}"));
+    let [mut drawn, mut open] = [0; 2];
+    for seed in 0..60 {
+        match assert_printed(&program, &generate::mixed(seed), &format!("survey, seed {seed}")).as_str() {
+            "refused 12\n" => open += 1,
+            text => drawn += usize::from(!text.starts_with("refused")),
+        }
         assert_printed(&program, &damage::damaged(seed).survey, &format!("damaged, seed {seed}"));
+    }
+    println!("the program: {drawn} of 60 drawn, {open} refused by 12");
+    assert!(drawn > 45 && open > 4, "{drawn} drawn, {open} refused by 12");
+    let examples = document::checked().into_iter().filter(|example| example.refusal == 12);
+    for example in examples {
+        assert_eq!(assert_printed(&program, &example.survey, example.name), "refused 12\n");
     }
     for seed in 0..3 {
         assert_printed(&program, &generate::long_loop(seed), &format!("long loop, seed {seed}"));

@@ -1,4 +1,5 @@
-//! Checks 1 to 8, in rising number: document 01, "Outputs and refusals".
+//! Checks 1 to 8, in rising number: document 01, "Outputs and refusals". Check 12: document 02, "Basins cut off by
+//! the box".
 
 use crate::refusal::Refusal;
 use crate::survey::{corner_at, offset, Cell, Corner, Survey, DEEPEST};
@@ -28,6 +29,12 @@ pub(crate) fn read(cells: &[u8], corners: &[u8]) -> Result<Survey, Refusal> {
 /// Check 8.
 pub(crate) fn clearance(clearance: f32) -> Result<(), Refusal> {
     refuse_unless(in_range(clearance), Refusal::Clearance)
+}
+
+/// Check 12, of a drawing alone: no corner on an outer face of the box is wet.
+pub(crate) fn closed_at_box(survey: &Survey, clearance: f32) -> Result<(), Refusal> {
+    let is_open = |corner: &Corner| corner.is_on_outer_face() && corner.is_wet(clearance);
+    refuse_unless(!survey.corners.iter().any(is_open), Refusal::OpenAtBox)
 }
 
 fn refuse_unless(lawful: bool, refusal: Refusal) -> Result<(), Refusal> {

@@ -85,7 +85,7 @@ pub fn enquire(
 /// Draws the surface into lent slices: document 01, "Outputs and refusals".
 ///
 /// Points take three elements each, triangles three each; elements past the last are untouched. A refusal
-/// (1 to 10) touches neither slice.
+/// (1 to 8, 12, 9 or 10, in this order) touches neither slice.
 pub fn draw(
     cells: &[u8],
     corners: &[u8],
@@ -99,7 +99,7 @@ pub fn draw(
     }
 }
 
-/// Draws the surface into vectors of its own. The refusals are 1 to 8.
+/// Draws the surface into vectors of its own. The refusals are 1 to 8, then 12.
 pub fn draw_to_vec(cells: &[u8], corners: &[u8], clearance: f32) -> Result<Drawing, u32> {
     outputs::drawing(cells, corners, clearance).map_err(Refusal::number)
 }

@@ -20,23 +20,24 @@ pub struct Drawing {
 pub struct Drawn {
     /// 0 if drawn, else the refusal.
     pub number: u32,
-    /// How many points there are; 0 with refusals 1 to 8.
+    /// How many points there are; 0 with every refusal but 9 and 10.
     pub points: u32,
-    /// How many triangles there are; 0 with refusals 1 to 8.
+    /// How many triangles there are; 0 with every refusal but 9 and 10.
     pub triangles: u32,
 }
 
 impl Drawn {
-    /// Refusals 1 to 8 give no counts.
+    /// Refusals 1 to 8 and 12 give no counts.
     pub(crate) fn refused(refusal: Refusal) -> Drawn {
         Drawn { number: refusal.number(), points: 0, triangles: 0 }
     }
 }
 
-/// Draws a survey at a clearance: checks 1 to 8, then all points and all triangles.
+/// Draws a survey at a clearance: checks 1 to 8 and 12, then all points and all triangles.
 pub(crate) fn drawing(cells: &[u8], corners: &[u8], clearance: f32) -> Result<Drawing, Refusal> {
     let survey = checks::read(cells, corners)?;
     checks::clearance(clearance)?;
+    checks::closed_at_box(&survey, clearance)?;
     let trees = EdgeTrees::over(&survey);
     let crossings = Crossings::on(&survey, &trees, clearance);
     let points = (0..crossings.count() as u32).flat_map(|point| crossings.place(point)).collect();

@@ -1,6 +1,7 @@
-//! The refusals of document 01's table, by name.
+//! The refusals of document 01's table and document 02's requests, by name.
 
-/// Why a survey, a clearance, a lent slice or an edge is refused. Checks run in rising number.
+/// Why a survey, a clearance, a lent slice or an edge is refused. Checks run in rising number, but for 12, which
+/// stands between 8 and 9.
 #[derive(Clone, Copy, Debug, PartialEq, Eq)]
 #[repr(u32)]
 pub(crate) enum Refusal {
@@ -26,6 +27,8 @@ pub(crate) enum Refusal {
     TriangleSlice = 10,
     /// No cell has the edge asked about.
     NoEdge = 11,
+    /// A corner on an outer face of the box is wet.
+    OpenAtBox = 12,
 }
 
 impl Refusal {

@@ -16,6 +16,11 @@ impl Corner {
         self.sounding > clearance
     }
 
+    /// Whether one of the six sides of the box holds the corner.
+    pub(crate) fn is_on_outer_face(self) -> bool {
+        self.place.iter().any(|&coordinate| coordinate == 0 || coordinate == length_at(0))
+    }
+
     /// Corner records rise strictly by this: z, then y, then x.
     pub(crate) fn rank(self) -> u64 {
         rank(self.place)

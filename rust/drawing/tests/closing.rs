@@ -1,40 +1,58 @@
 //! Random surveys are drawn and counted: demand 3, and demand 2 against a second drawing. Every edge is asked about, and steps follow from answers.
 
+mod answers;
 mod plain_drawing;
 
-use drawing::{draw_to_vec, enquire, Drawing, Edge, End};
-use plain_drawing::Face;
+use answers::{ask, plain_answer};
+use drawing::{draw_to_vec, Drawing, Edge, End};
+use plain_drawing::{Face, PlainDrawing};
 use surveys::closing::{self, Breach};
+use surveys::lent::bits;
 use surveys::plain::{self, Plain};
+use surveys::refusals::{self, OPEN_AT_BOX};
+use surveys::tally::Tally;
 use surveys::{document, generate, Survey};
 
-fn drawing(survey: &Survey) -> Drawing {
-    draw_to_vec(&survey.cells, &survey.corners, survey.clearance).expect("a lawful survey")
+/// The drawing of a survey; none if it is refused by 12, which must be as the plain checks say.
+fn drawing(survey: &Survey) -> Option<Drawing> {
+    let drawn = draw_to_vec(&survey.cells, &survey.corners, survey.clearance);
+    match refusals::of_drawing(survey) {
+        0 => Some(drawn.expect("no check refuses it")),
+        refusal => {
+            assert_eq!((drawn, refusal), (Err(OPEN_AT_BOX), OPEN_AT_BOX));
+            None
+        }
+    }
 }
 
-/// What a check of demand 3 says of a survey's drawing.
-type ClosingCheck = fn(&Survey, &[f32], &[u32]) -> Result<(), Breach>;
-
-fn assert_all_close(surveys: impl Iterator<Item = Survey>, check: ClosingCheck) {
-    for (seed, survey) in surveys.enumerate() {
-        let Drawing { points, triangles } = drawing(&survey);
-        assert_eq!(check(&survey, &points, &triangles), Ok(()), "seed {seed}");
+/// Hands every survey that is drawn on with its drawing and its number in the row, and says how many those were.
+fn for_drawn(
+    surveys: impl Iterator<Item = Survey>,
+    what: &str,
+    mut visit: impl FnMut(&Survey, &Drawing, usize),
+) {
+    let mut tally = Tally::default();
+    for (number, survey) in surveys.enumerate() {
+        match drawing(&survey) {
+            Some(drawing) => {
+                tally.add_drawn(drawing.points.len() / 3);
+                visit(&survey, &drawing, number);
+            }
+            None => tally.add_open(),
+        }
     }
+    tally.assert_most_drawn(what);
+}
+
+fn assert_closes(survey: &Survey, Drawing { points, triangles }: &Drawing, what: &str) {
+    assert_eq!(closing::check(survey, points, triangles), Ok(()), "{what}");
 }
 
 #[test]
 fn random_surveys_close() {
-    assert_all_close((0..3_000).map(generate::survey), closing::check);
-}
-
-#[test]
-fn random_surveys_with_a_dry_outside_close_everywhere() {
-    assert_all_close((0..2_000).map(generate::interior), closing::check_everywhere);
-}
-
-#[test]
-fn loops_of_many_hundred_points_close_everywhere() {
-    assert_all_close((0..20).map(generate::long_loop), closing::check_everywhere);
+    for_drawn((0..5_000).map(generate::mixed), "closing", |survey, drawing, seed| {
+        assert_closes(survey, drawing, &format!("seed {seed}"));
+    });
 }
 
 /// The number of points of the longest fan.
@@ -45,58 +63,79 @@ fn longest_loop(triangles: &[u32]) -> usize {
 }
 
 #[test]
-fn a_leaf_can_have_a_loop_of_many_hundred_points() {
+fn loops_of_many_hundred_points_close() {
     for seed in 0..20 {
-        let points = longest_loop(&drawing(&generate::long_loop(seed)).triangles);
+        let survey = generate::long_loop(seed);
+        let drawing = drawing(&survey).expect("a dry outside");
+        let points = longest_loop(&drawing.triangles);
         assert!(points > 800, "seed {seed}: {points} points");
+        assert_closes(&survey, &drawing, &format!("long loop, seed {seed}"));
     }
 }
 
 #[test]
 fn random_surveys_are_drawn_as_the_plain_drawing_draws_them() {
-    let small = (0..5_000).map(|seed| generate::small_survey(seed, 8));
-    let large = (0..100).map(generate::survey);
+    let small = (0..5_000).map(|seed| generate::small_mixed(seed, 8));
+    let large = (0..100).map(generate::mixed);
     let long = (0..2).map(generate::long_loop);
-    for (index, survey) in small.chain(large).chain(long).enumerate() {
-        let Drawing { points, triangles } = drawing(&survey);
-        let (plain_points, plain_triangles) = plain_drawing::draw(&Plain::read(&survey));
-        let bits = |points: &[f32]| points.iter().map(|at| at.to_bits()).collect::<Vec<u32>>();
-        assert_eq!(bits(&points), bits(&plain_points), "survey {index}: points");
-        assert_eq!(triangles, plain_triangles, "survey {index}: triangles");
-    }
+    let mut shown = Shown::default();
+    let surveys = small.chain(large).chain(long);
+    for_drawn(surveys, "against the plain drawing", |survey, drawing, number| {
+        let plain = Plain::read(survey);
+        let expected = plain_drawing::draw(&plain);
+        assert_eq!(bits(&drawing.points), bits(&expected.points), "survey {number}: points");
+        assert_eq!(drawing.triangles, expected.triangles, "survey {number}: triangles");
+        shown.look(&plain, &expected.loops);
+    });
+    shown.assert_much();
 }
 
-fn ask(survey: &Survey, edge: plain::Edge) -> Result<Edge, u32> {
-    let Survey { cells, corners, clearance } = survey;
-    let [x, y, z] = edge.low().map(u32::from);
-    enquire(cells, corners, *clearance, edge.axis as u32, x, y, z, u32::from(edge.length))
+/// How many drawings showed what a drawing may stumble over.
+#[derive(Debug, Default)]
+struct Shown {
+    /// A loop of more than three points.
+    loops: usize,
+    /// One of more than eight.
+    long_loops: usize,
+    /// A point on a divided edge that is even, so that its other half has a point too.
+    twins: usize,
+    /// A small face with four odd edges.
+    saddles: usize,
+}
+
+impl Shown {
+    fn look(&mut self, plain: &Plain, loops: &[Vec<usize>]) {
+        let longest = loops.iter().map(Vec::len).max().unwrap_or(0);
+        self.loops += usize::from(longest > 3);
+        self.long_loops += usize::from(longest > 8);
+        let points = 0..plain.carriers.len();
+        self.twins += usize::from(points.into_iter().any(|point| plain.twin(point).is_some()));
+        self.saddles += usize::from(plain_drawing::has_saddle(plain));
+    }
+
+    fn assert_much(&self) {
+        println!("of the drawings: {self:?}");
+        let Shown { loops, long_loops, twins, saddles } = *self;
+        assert!(loops > 3_500 && long_loops > 1_500 && twins > 3_000 && saddles > 2_500, "{self:?}");
+    }
 }
 
 #[test]
 fn every_enquiry_is_answered_as_the_plain_edges_say() {
-    for seed in 0..60 {
-        let survey = generate::small_survey(seed, 3);
+    let any_outside = (0..60).map(|seed| generate::small_survey(seed, 3));
+    let dry_outside = (0..20).map(|seed| generate::small_interior(seed, 3));
+    let mut open = 0;
+    for (number, survey) in any_outside.chain(dry_outside).enumerate() {
+        open += usize::from(drawing(&survey).is_none());
         let plain = Plain::read(&survey);
         for (place, _) in plain::corners(&survey.corners) {
             for (axis, shift) in (0..3).flat_map(|axis| (0..=10).map(move |shift| (axis, shift))) {
                 let edge = plain::Edge::new(axis, place, 1 << shift);
-                assert_eq!(ask(&survey, edge), plain_answer(&plain, edge), "seed {seed}, {edge:?}");
+                assert_eq!(ask(&survey, edge), plain_answer(&plain, edge), "survey {number}, {edge:?}");
             }
         }
     }
-}
-
-fn plain_answer(plain: &Plain, edge: plain::Edge) -> Result<Edge, u32> {
-    if !plain.edges.contains(&edge) {
-        Err(11)
-    } else if !plain.is_odd(edge) {
-        Ok(Edge::Even)
-    } else {
-        let number = plain.point(edge);
-        let place = plain.place(plain.carriers[number]);
-        let wet_end = if plain.is_wet(edge.low()) { End::Lower } else { End::Upper };
-        Ok(Edge::Crossing { number: number as u32, place, wet_end })
-    }
+    assert!(open > 40, "{open} of the surveys are refused for drawing");
 }
 
 /// The step in a face with two odd edges by the answers for its four edges: on the way round, from the point with the wet end ahead to the one with the wet end
@@ -142,7 +181,7 @@ fn the_step_in_a_face_with_two_odd_edges_follows_from_four_answers() {
 /// What the closing check says of the twin survey's drawing after a change to it.
 fn breach(change: impl FnOnce(&mut Drawing)) -> Result<(), Breach> {
     let survey = document::twin();
-    let mut changed = drawing(&survey);
+    let mut changed = drawing(&survey).expect("document 01 draws it");
     change(&mut changed);
     closing::check(&survey, &changed.points, &changed.triangles)
 }
@@ -165,11 +204,12 @@ fn the_closing_check_finds_what_is_wrong() {
     assert_eq!(breach(|drawn| drawn.points[1] = f32::NAN), Err(Breach::OffEdge(0)));
 }
 
+/// Drawn all the same, a pool that runs out of the box has an open end there.
 #[test]
-fn only_pairs_in_one_outer_face_are_excepted() {
+fn the_closing_check_excepts_no_outer_face() {
     let survey = document::one_corner_wet();
-    let Drawing { points, triangles } = drawing(&survey);
-    assert_eq!(closing::check(&survey, &points, &triangles), Ok(()));
-    let everywhere = closing::check_everywhere(&survey, &points, &triangles);
-    assert!(matches!(everywhere, Err(Breach::Unbalanced { forth: 1, back: 0, .. })), "{everywhere:?}");
+    let PlainDrawing { points, triangles, .. } = plain_drawing::draw(&Plain::read(&survey));
+    assert_eq!(triangles, [0, 1, 2]);
+    let found = closing::check(&survey, &points, &triangles);
+    assert!(matches!(found, Err(Breach::Unbalanced { forth: 1, back: 0, .. })), "{found:?}");
 }

@@ -24,10 +24,10 @@ fn drawings_are_exactly_those_of_the_document() {
 
 #[test]
 fn checks_decide_as_the_document_says() {
-    for document::Checked { name, survey, refusal: expected } in document::checked() {
-        assert_eq!(refusal(&survey), expected, "{name}");
-        let by_itself = if expected == 8 { 0 } else { expected };
-        assert_eq!(check(&survey.cells, &survey.corners), by_itself, "{name}, by itself");
+    for example in document::checked() {
+        let document::Checked { name, survey, refusal: expected } = &example;
+        assert_eq!(refusal(survey), *expected, "{name}");
+        assert_eq!(check(&survey.cells, &survey.corners), example.by_itself(), "{name}, by itself");
     }
 }
 
@@ -92,8 +92,12 @@ fn a_survey_without_points_needs_no_slices() {
 
 #[test]
 fn dry_at_0_and_wet_3_at_256_cross_at_64() {
-    let crossing = Ok(Edge::Crossing { number: 0, place: [64.0, 0.0, 0.0], wet_end: End::Upper });
-    assert_eq!(ask(&document::quarter_place(), 0, [0, 0, 0], 256), crossing);
+    let crossing = |place| Ok(Edge::Crossing { number: 0, place, wet_end: End::Upper });
+    let inside = ask(&document::quarter_place(), 0, [0, 512, 512], 256);
+    assert_eq!(inside, crossing([64.0, 512.0, 512.0]));
+    let at_box = document::quarter_place_at_box();
+    assert_eq!(refusal(&at_box), 12);
+    assert_eq!(ask(&at_box, 0, [0, 0, 0], 256), crossing([64.0, 0.0, 0.0]));
 }
 
 #[test]
@@ -132,8 +136,11 @@ fn an_edge_of_no_cell_is_refusal_11() {
 
 #[test]
 fn an_enquiry_is_refused_first_for_its_survey() {
-    for document::Checked { name, survey, refusal } in document::checked() {
-        let expected = if refusal == 0 { 11 } else { refusal };
-        assert_eq!(ask(&survey, 3, [0, 0, 0], 1024), Err(expected), "{name}");
+    for example in document::checked() {
+        let expected = match example.for_enquiry() {
+            0 => 11,
+            refusal => refusal,
+        };
+        assert_eq!(ask(&example.survey, 3, [0, 0, 0], 1024), Err(expected), "{}", example.name);
     }
 }

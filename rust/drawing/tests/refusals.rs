@@ -1,8 +1,14 @@
-//! Damaged surveys: each meets the refusal it must, by every call, and no lent slice is touched.
+//! Damaged surveys, and surveys with a wet corner on an outer face: each meets the refusal it must, by every call, and
+//! no lent slice is touched.
 
-use drawing::{check, draw, enquire, Drawn};
+mod answers;
+
+use answers::{ask, plain_answer};
+use drawing::{check, draw, draw_to_vec, enquire, Drawn, Edge};
 use surveys::lent::{self, bits};
-use surveys::{damage, generate, refusals, Survey};
+use surveys::plain::Plain;
+use surveys::refusals::{self, OPEN_AT_BOX};
+use surveys::{damage, document, generate, Survey};
 
 /// Draws into slices of these lengths. A refused drawing must leave every bit of both as it was.
 fn drawn(survey: &Survey, point_room: usize, triangle_room: usize, what: &str) -> Drawn {
@@ -23,6 +29,49 @@ fn assert_refused(survey: &Survey, refusal: u32, what: &str) {
     assert_eq!(check(cells, corners), if refusal == 8 { 0 } else { refusal }, "{what}: by itself");
     let enquiry = enquire(cells, corners, *clearance, 0, 0, 0, 0, 1024);
     assert_eq!(enquiry, Err(refusal), "{what}: enquiry");
+}
+
+/// Draws a survey with a wet corner on an outer face into slices of several lengths, then makes the other calls, which
+/// serve it. Gives back how many of the edges asked about are crossing.
+fn assert_open(survey: &Survey, what: &str) -> usize {
+    let Survey { cells, corners, clearance } = survey;
+    for (point_room, triangle_room) in [(64, 64), (0, 64), (64, 0), (0, 0)] {
+        let refused = Drawn { number: OPEN_AT_BOX, points: 0, triangles: 0 };
+        assert_eq!(drawn(survey, point_room, triangle_room, what), refused, "{what}");
+    }
+    assert_eq!(draw_to_vec(cells, corners, *clearance), Err(OPEN_AT_BOX), "{what}: into vectors");
+    assert_eq!(check(cells, corners), 0, "{what}: by itself");
+    let plain = Plain::read(survey);
+    let few = plain.edges.iter().step_by(1 + plain.edges.len() / 30);
+    let answer = |&edge| {
+        let answer = ask(survey, edge);
+        assert_eq!(answer, plain_answer(&plain, edge), "{what}: {edge:?}");
+        answer.is_ok_and(|edge| edge != Edge::Even)
+    };
+    few.map(answer).filter(|&is_crossing| is_crossing).count()
+}
+
+#[test]
+fn a_wet_corner_on_an_outer_face_is_refused_for_drawing_alone() {
+    let examples = document::checked().into_iter().filter(|example| example.refusal == OPEN_AT_BOX);
+    for example in examples {
+        assert_open(&example.survey, example.name);
+    }
+    let open = |seed| assert_open(&generate::one_wet_outside(seed), &format!("seed {seed}"));
+    let crossings: usize = (0..300).map(open).sum();
+    assert!(crossings > 1_000, "{crossings} crossing edges");
+}
+
+/// With a clearance that check 8 refuses all corners may be wet, and with a sounding that check 7 refuses this one.
+#[test]
+fn checks_7_and_8_come_before_12() {
+    for face_centre in document::FACE_CENTRES {
+        let what = format!("{face_centre:?}");
+        let wet = |sounding| document::wet_at(&[0], &[face_centre], sounding);
+        assert_refused(&wet(f32::INFINITY), 7, &what);
+        assert_refused(&wet(1.0).at(f32::NEG_INFINITY), 8, &what);
+        assert_open(&wet(1.0).at(-1_048_576.0), &what);
+    }
 }
 
 #[test]
@@ -46,34 +95,31 @@ fn of_several_refusals_the_lowest_is_given() {
 
 #[test]
 fn corrupted_tables_are_refused_as_the_plain_checks_say() {
-    let mut met = [0; 9];
+    let mut met = [0; 13];
     for seed in 0..20_000 {
         let survey = damage::corrupted(seed);
-        let refusal = refusals::first(&survey);
+        let what = format!("seed {seed}");
+        let refusal = refusals::of_drawing(&survey);
         met[refusal as usize] += 1;
-        if refusal != 0 {
-            assert_refused(&survey, refusal, &format!("seed {seed}"));
-        } else {
-            assert_eq!(check(&survey.cells, &survey.corners), 0, "seed {seed}");
+        match refusal {
+            0 => {
+                assert_eq!(check(&survey.cells, &survey.corners), 0, "{what}");
+                assert!([0, 9, 10].contains(&drawn(&survey, 64, 64, &what).number), "{what}");
+            }
+            OPEN_AT_BOX => _ = assert_open(&survey, &what),
+            _ => assert_refused(&survey, refusal, &what),
         }
     }
-    for refusal in [0, 1, 2, 3, 5, 6, 7, 8] {
+    for refusal in [0, 1, 2, 3, 5, 6, 7, 8, 12] {
         assert!(met[refusal] > 20, "refusal {refusal} was met {} times", met[refusal]);
     }
 }
 
 #[test]
-fn generated_surveys_are_lawful() {
-    for seed in 0..300 {
-        assert_eq!(refusals::first(&generate::survey(seed)), 0, "seed {seed}");
-        assert_eq!(refusals::first(&generate::interior(seed)), 0, "interior, seed {seed}");
-    }
-}
-
-#[test]
 fn short_slices_are_refused_with_both_counts() {
+    let mut with_points = 0;
     for seed in 0..500 {
-        let survey = generate::small_survey(seed, 4);
+        let survey = generate::small_interior(seed, 4);
         let what = format!("seed {seed}");
         let attempt =
             |point_room: usize, triangle_room: usize| drawn(&survey, point_room, triangle_room, &what);
@@ -83,9 +129,11 @@ fn short_slices_are_refused_with_both_counts() {
         let counts = |number| Drawn { number, points, triangles };
         assert_eq!(attempt(point_room, triangle_room), counts(0), "{what}");
         if points > 0 {
+            with_points += 1;
             assert_eq!(attempt(point_room - 1, triangle_room), counts(9), "{what}");
             assert_eq!(attempt(0, 0), counts(9), "{what}");
             assert_eq!(attempt(point_room, triangle_room - 1), counts(10), "{what}");
         }
     }
+    assert!(with_points > 400, "{with_points} surveys have points");
 }

@@ -1,9 +1,9 @@
-//! Demand 3, checked on a drawing by counting: document 01, "What closing says".
+//! Demand 3, checked on a drawing by counting: document 01, "What closing says", without the exception about outer
+//! faces, as document 02 wants it: "Basins cut off by the box".
 
 use std::collections::HashMap;
 
-use crate::plain::{Edge, Plain};
-use crate::survey::BOX_SIZE;
+use crate::plain::Plain;
 use crate::Survey;
 
 /// How a drawing breaks demand 3.
@@ -37,30 +37,15 @@ pub enum Breach {
     Misplaced(usize),
 }
 
-/// Checks the points and triangles drawn for an accepted survey. Two points whose edges both lie in one outer
-/// face need no balance.
+/// Checks the points and triangles drawn for a survey that is not refused for drawing.
 pub fn check(survey: &Survey, points: &[f32], triangles: &[u32]) -> Result<(), Breach> {
-    check_except(survey, points, triangles, share_outer_face)
-}
-
-/// Checks as [`check`] does, but wants balance between every two points. So it is where the outside is dry.
-pub fn check_everywhere(survey: &Survey, points: &[f32], triangles: &[u32]) -> Result<(), Breach> {
-    check_except(survey, points, triangles, |_, _| false)
-}
-
-fn check_except(
-    survey: &Survey,
-    points: &[f32],
-    triangles: &[u32],
-    excepted: fn(Edge, Edge) -> bool,
-) -> Result<(), Breach> {
     let plain = Plain::read(survey);
     let odd_edges = plain.carriers.len();
     if points.len() != 3 * odd_edges {
         return Err(Breach::PointCount { odd_edges, elements: points.len() });
     }
     check_met(odd_edges, triangles)?;
-    check_balance(&plain, triangles, excepted)?;
+    check_balance(triangles)?;
     check_places(&plain, points)
 }
 
@@ -76,8 +61,8 @@ fn check_met(count: usize, triangles: &[u32]) -> Result<(), Breach> {
     met.iter().position(|&met| !met).map_or(Ok(()), |point| Err(Breach::Unmet(point)))
 }
 
-/// The triangles run between every two points, unless excepted, as often one way as the other.
-fn check_balance(plain: &Plain, triangles: &[u32], excepted: fn(Edge, Edge) -> bool) -> Result<(), Breach> {
+/// The triangles run between every two points as often one way as the other.
+fn check_balance(triangles: &[u32]) -> Result<(), Breach> {
     let mut runs: HashMap<[u32; 2], usize> = HashMap::new();
     for triangle in triangles.chunks_exact(3) {
         let [a, b, c] = [triangle[0], triangle[1], triangle[2]];
@@ -87,18 +72,11 @@ fn check_balance(plain: &Plain, triangles: &[u32], excepted: fn(Edge, Edge) -> b
     }
     for (&[from, to], &forth) in &runs {
         let back = runs.get(&[to, from]).copied().unwrap_or(0);
-        let [one, other] = [from, to].map(|point| plain.carriers[point as usize]);
-        if forth != back && !excepted(one, other) {
+        if forth != back {
             return Err(Breach::Unbalanced { points: [from, to], forth, back });
         }
     }
     Ok(())
-}
-
-/// Whether one of the six sides of the box holds both ends of both edges.
-fn share_outer_face(one: Edge, other: Edge) -> bool {
-    let ends = [one.low(), one.high(), other.low(), other.high()];
-    (0..3).any(|axis| [0, BOX_SIZE].iter().any(|&side| ends.iter().all(|end| end[axis] == side)))
 }
 
 /// Every point is on its edge, ends included, and at the stated place to the bit.

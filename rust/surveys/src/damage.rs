@@ -33,7 +33,8 @@ pub fn damaged_for(refusal: u32, seed: u64) -> Damaged {
     damaged_by(&mut Random::new(seed), &BTreeSet::from([refusal]))
 }
 
-/// Damage is done from the highest number down, so that none of it undoes damage of a lower number.
+/// Damage is done from the highest number down, so that none of it undoes damage of a lower number. Most of the
+/// surveys would be refused for drawing by 12 too, which comes after all of it.
 fn damaged_by(random: &mut Random, kinds: &BTreeSet<u32>) -> Damaged {
     let mut survey = generate::survey(random.bits());
     for kind in kinds.iter().rev() {
@@ -55,10 +56,10 @@ fn damaged_by(random: &mut Random, kinds: &BTreeSet<u32>) -> Damaged {
 }
 
 /// A random survey with flipped bits, lost bytes, records that change places and extreme numbers. It may be
-/// lawful still.
+/// lawful still, and drawn or open at the box.
 pub fn corrupted(seed: u64) -> Survey {
     let random = &mut Random::new(seed);
-    let mut survey = generate::small_survey(random.bits(), 6);
+    let mut survey = generate::small_mixed(random.bits(), 6);
     for _ in 0..=random.below(3) {
         let (table, record) = match random.below(3) {
             0 => (&mut survey.cells, CELL_RECORD),

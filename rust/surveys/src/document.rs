@@ -3,7 +3,12 @@
 //!
 //! Clearance 0, wet +1, dry −1 unless said.
 
-use crate::survey::{cell_table, too_deep_table, Octree};
+use crate::expected::{
+    centre_points, centre_triangles, far_points, line_points, line_triangles, open_points, open_triangles,
+    opposite_points, opposite_triangles, points_close_to, quarter_points, twin_points, twin_triangles,
+};
+use crate::refusals::OPEN_AT_BOX;
+use crate::survey::{cell_table, too_deep_table, Cube, Octree, BOX_SIZE};
 use crate::Survey;
 
 /// A sounding and a clearance, both zero: every pair of signs.
@@ -27,43 +32,76 @@ impl Drawn {
     }
 }
 
-/// A survey that a check of 1 to 8 decides.
+/// A survey that a check of 1 to 8 or 12 decides.
 pub struct Checked {
     /// What the survey shows.
     pub name: &'static str,
     /// The survey.
     pub survey: Survey,
-    /// The refusal, or 0.
+    /// The refusal for drawing, or 0.
     pub refusal: u32,
 }
+
+impl Checked {
+    fn new(name: &'static str, survey: Survey, refusal: u32) -> Checked {
+        Checked { name, survey, refusal }
+    }
+
+    /// The refusal for an enquiry about an edge of some cell, or 0: 12 is for drawing alone.
+    pub fn for_enquiry(&self) -> u32 {
+        match self.refusal {
+            OPEN_AT_BOX => 0,
+            refusal => refusal,
+        }
+    }
+
+    /// The refusal of the survey by itself, or 0: the clearance is not looked at.
+    pub fn by_itself(&self) -> u32 {
+        match self.for_enquiry() {
+            8 => 0,
+            refusal => refusal,
+        }
+    }
+}
+
+/// The middles of the box's six sides: lower and upper on x, then y, then z.
+pub const FACE_CENTRES: [[u16; 3]; 6] =
+    [[0, 512, 512], [1024, 512, 512], [512, 0, 512], [512, 1024, 512], [512, 512, 0], [512, 512, 1024]];
 
 /// These records split; these places wet with this sounding, all others −1.
 pub fn wet_at(splits: &[usize], wet: &[[u16; 3]], sounding: f32) -> Survey {
     Survey::new(&Octree::splitting(splits), |place| if wet.contains(&place) { sounding } else { -1.0 })
 }
 
-/// One leaf, only (0,0,0) wet.
+/// One leaf, only (0,0,0) wet: refused for drawing by document 02, request 3.
 pub fn one_corner_wet() -> Survey {
-    wet_at(&[], &[[0, 0, 0]], 1.0)
+    sounded(1.0)
 }
 
 /// One split, only the centre wet.
 pub fn centre_wet() -> Survey {
-    wet_at(&[0], &[[512, 512, 512]], 1.0)
+    centre_sounded(1.0)
 }
 
-/// Records 0 and 1 split, all soundings alike.
+/// Records 0 and 1 split, all soundings alike. If all are wet, document 02, request 3, refuses them for drawing.
 pub fn level(sounding: f32) -> Survey {
     Survey::new(&Octree::splitting(&[0, 1]), |_| sounding)
 }
 
-/// One leaf whose face at z = 0 has two opposite wet corners.
+/// Records 0 and 1 split. The leaves from 256 to 512 on x and y that meet at z = 256 have two opposite wet corners in
+/// that face. It lies inside the box, since document 02, request 3, wants a dry outside.
 pub fn opposite_corners_wet() -> Survey {
-    wet_at(&[], &[[0, 0, 0], [1024, 1024, 0]], 1.0)
+    wet_at(&[0, 1], &[[256, 256, 256], [512, 512, 256]], 1.0)
 }
 
-/// Dry −1 at 0, wet 3 at 256: the edge along x from (0,0,0) of length 256 is crossed at 64.
+/// Dry −1 at 0, wet 3 at 256, inside the box: the edge along x from (0,512,512) of length 256 is crossed at 64.
 pub fn quarter_place() -> Survey {
+    wet_at(&[0, 1], &[[256, 512, 512]], 3.0)
+}
+
+/// Dry −1 at 0, wet 3 at 256, on an edge of the box: refused for drawing by document 02, request 3, but the edge along
+/// x from (0,0,0) of length 256 is still crossed at 64.
+pub fn quarter_place_at_box() -> Survey {
     wet_at(&[0, 1], &[[256, 0, 0]], 3.0)
 }
 
@@ -78,6 +116,15 @@ pub fn awash(sounding: f32, clearance: f32) -> Survey {
 pub fn awash_around(wet: f32, sounding: f32, clearance: f32) -> Survey {
     let at = |place| if place == [512; 3] { wet } else { sounding };
     Survey::new(&Octree::splitting(&[0]), at).at(clearance)
+}
+
+/// One split, the centre wet, and the middle of one side of the box equal to the clearance.
+fn awash_at(face_centre: [u16; 3]) -> Survey {
+    Survey::new(&Octree::splitting(&[0]), |place| match place {
+        [512, 512, 512] => 1.0,
+        place if place == face_centre => 0.0,
+        _ => -1.0,
+    })
 }
 
 /// The twin survey: records 0 and 1 split, 46 corners, only (256,512,512) wet.
@@ -101,6 +148,15 @@ pub fn chain(splits: usize) -> Survey {
     Survey::new(&Octree::new(|_, cube| cube.low == [0; 3] && (cube.depth() as usize) < splits), |_| -1.0)
 }
 
+/// Cells of depth 9 at one end of a diagonal of the box are split, and only the corner in their middle is wet: as near
+/// to three outer faces as a corner inside can be.
+fn wet_next_to_outside(at_upper_end: bool) -> Survey {
+    let at_end =
+        |cube: Cube| if at_upper_end { cube.low == [BOX_SIZE - cube.size; 3] } else { cube.low == [0; 3] };
+    let wet = if at_upper_end { [BOX_SIZE - 1; 3] } else { [1; 3] };
+    Survey::new(&Octree::new(|_, cube| at_end(cube)), |place| if place == wet { 1.0 } else { -1.0 })
+}
+
 /// A chain of eleven splits: a cell of depth 10 is split. No corner table fits it.
 pub fn too_deep() -> Survey {
     Survey { cells: too_deep_table(|| 0), ..chain(10) }
@@ -114,6 +170,11 @@ pub fn full() -> Survey {
 /// One leaf with this sounding at (0,0,0).
 pub fn sounded(sounding: f32) -> Survey {
     wet_at(&[], &[[0, 0, 0]], sounding)
+}
+
+/// One split with this sounding at the centre.
+pub fn centre_sounded(sounding: f32) -> Survey {
+    wet_at(&[0], &[[512, 512, 512]], sounding)
 }
 
 /// Nine records, only record 3 split, entry 1.
@@ -132,27 +193,20 @@ pub fn too_many_cells() -> Survey {
 pub fn drawn() -> Vec<Drawn> {
     let drawn = Drawn::new;
     let mut list = vec![
-        drawn("one corner wet", one_corner_wet(), near_origin(512.0), vec![[0, 1, 2]]),
         drawn("the centre wet", centre_wet(), centre_points(256.0), centre_triangles()),
         drawn("all dry", level(-1.0), vec![], vec![]),
-        drawn("all wet", level(1.0), vec![], vec![]),
-        drawn(
-            "two opposite wet corners",
-            opposite_corners_wet(),
-            opposite_points(),
-            vec![[0, 2, 4], [1, 3, 5]],
-        ),
-        drawn(
-            "sounding 1,048,576",
-            sounded(1_048_576.0),
-            near_origin(1024.0 - 1.0 / 1024.0),
-            vec![[0, 1, 2]],
-        ),
-        drawn("the twin survey", twin(), twin_points(), vec![[0, 1, 3], [0, 2, 1], [0, 3, 2], [1, 2, 3]]),
+        drawn("two opposite wet corners", opposite_corners_wet(), opposite_points(), opposite_triangles()),
+        drawn("dry -1 at 0, wet 3 at 256", quarter_place(), quarter_points(), twin_triangles()),
+        drawn("sounding 1,048,576", centre_sounded(1_048_576.0), far_points(), centre_triangles()),
+        drawn("the twin survey", twin(), twin_points(), twin_triangles()),
         drawn("open inside a side", open_inside_side(), open_points(), open_triangles()),
         drawn("two on a line", two_on_a_line(1.0), line_points(1.0), line_triangles()),
         drawn("two on a line, uneven", two_on_a_line(2.0), line_points(2.0), line_triangles()),
     ];
+    for (at_upper_end, middle) in [(false, 1.0), (true, 1_023.0)] {
+        let survey = wet_next_to_outside(at_upper_end);
+        list.push(drawn("wet next to the outside", survey, points_close_to(middle), centre_triangles()));
+    }
     list.extend(drawn_at_clearance());
     list
 }
@@ -165,12 +219,12 @@ fn drawn_at_clearance() -> Vec<Drawn> {
         drawn("awash around the centre", survey, centre_points(512.0), centre_triangles())
     };
     // Its difference to the dry soundings is rounded to 1, and so t is 1.
-    let barely_wet = sounded(0.0f32.next_up());
+    let barely_wet = centre_sounded(0.0f32.next_up());
     let mut list = vec![
         around(1.1, 0.1, 0.1),
         around(0.1f32.next_up(), 0.1, 0.1),
         around(1_048_576.0, -1_048_576.0, -1_048_576.0),
-        drawn("barely wet", barely_wet, near_origin(0.0), vec![[0, 1, 2]]),
+        drawn("barely wet", barely_wet, centre_points(0.0), centre_triangles()),
         drawn("the greatest clearance", sounded(1_048_576.0).at(1_048_576.0), vec![], vec![]),
         drawn("the least clearance", level(-1_048_576.0).at(-1_048_576.0), vec![], vec![]),
     ];
@@ -178,13 +232,18 @@ fn drawn_at_clearance() -> Vec<Drawn> {
         list.push(drawn("awash", awash(sounding, clearance), vec![], vec![]));
         list.push(around(1.0, sounding, clearance));
     }
+    for (number, face_centre) in FACE_CENTRES.into_iter().enumerate() {
+        let mut points = centre_points(256.0);
+        points[number] = face_centre.map(f32::from);
+        list.push(drawn("awash on one side of the box", awash_at(face_centre), points, centre_triangles()));
+    }
     list
 }
 
-/// The surveys that checks 1 to 8 decide.
+/// The surveys that checks 1 to 8 and 12 decide.
 #[allow(clippy::excessive_precision)] // document 01's own number
 pub fn checked() -> Vec<Checked> {
-    let checked = |name, survey, refusal| Checked { name, survey, refusal };
+    let checked = Checked::new;
     let mut list = vec![
         checked("2,049 records", full(), 0),
         checked("8,200 bytes", too_many_cells(), 1),
@@ -195,87 +254,33 @@ pub fn checked() -> Vec<Checked> {
     let numbers = [1_048_576.0, 1_048_576.125, f32::NAN, f32::INFINITY];
     for (number, lawful) in numbers.into_iter().zip([true, false, false, false]) {
         for signed in [number, -number] {
-            list.push(checked("a sounding", sounded(signed), if lawful { 0 } else { 7 }));
-            list.push(checked("a clearance", one_corner_wet().at(signed), if lawful { 0 } else { 8 }));
+            // Where the number is lawful, the corner at (0,0,0) may be wet.
+            let refusal = |check: u32, wet: bool| match (lawful, wet) {
+                (false, _) => check,
+                (true, true) => OPEN_AT_BOX,
+                (true, false) => 0,
+            };
+            list.push(checked("a sounding", sounded(signed), refusal(7, signed > 0.0)));
+            list.push(checked("a clearance", one_corner_wet().at(signed), refusal(8, signed < 0.0)));
         }
     }
+    list.extend(open_at_box());
     list
 }
 
-/// The points of one leaf with only (0,0,0) wet, so far from it.
-fn near_origin(far: f32) -> Vec<[f32; 3]> {
-    vec![[far, 0.0, 0.0], [0.0, far, 0.0], [0.0, 0.0, far]]
-}
-
-/// The points of one split with only the centre wet, so far from it.
-fn centre_points(far: f32) -> Vec<[f32; 3]> {
-    let (below, above) = (512.0 - far, 512.0 + far);
-    vec![
-        [below, 512.0, 512.0],
-        [above, 512.0, 512.0],
-        [512.0, below, 512.0],
-        [512.0, above, 512.0],
-        [512.0, 512.0, below],
-        [512.0, 512.0, above],
-    ]
-}
-
-fn centre_triangles() -> Vec<[u32; 3]> {
-    vec![[0, 4, 2], [1, 2, 4], [0, 3, 4], [1, 4, 3], [0, 2, 5], [1, 5, 2], [0, 5, 3], [1, 3, 5]]
-}
-
-fn opposite_points() -> Vec<[f32; 3]> {
-    vec![
-        [512.0, 0.0, 0.0],
-        [512.0, 1024.0, 0.0],
-        [0.0, 512.0, 0.0],
-        [1024.0, 512.0, 0.0],
-        [0.0, 0.0, 512.0],
-        [1024.0, 1024.0, 512.0],
-    ]
-}
-
-/// The bits are those of document 01's listing.
-fn twin_points() -> Vec<[f32; 3]> {
-    let bits: [[u32; 3]; 4] = [
-        [0x43000000, 0x44000000, 0x44000000],
-        [0x43c00000, 0x44000000, 0x44000000],
-        [0x43800000, 0x43c00000, 0x44000000],
-        [0x43800000, 0x44000000, 0x43c00000],
+/// The surveys with a wet corner on an outer face: document 02, request 3.
+fn open_at_box() -> Vec<Checked> {
+    let open = |name, survey| Checked::new(name, survey, OPEN_AT_BOX);
+    let mut list = vec![
+        open("the first corner wet", one_corner_wet()),
+        open("the last corner wet", wet_at(&[], &[[BOX_SIZE; 3]], 1.0)),
+        open("all wet", level(1.0)),
+        open("wet on an edge of the box", quarter_place_at_box()),
     ];
-    bits.map(|place| place.map(f32::from_bits)).to_vec()
-}
-
-fn open_points() -> Vec<[f32; 3]> {
-    vec![[448.0, 128.0, 256.0], [512.0, 64.0, 256.0], [512.0, 192.0, 256.0], [512.0, 128.0, 192.0]]
-}
-
-fn open_triangles() -> Vec<[u32; 3]> {
-    vec![[1, 3, 2], [0, 1, 2], [0, 3, 1], [0, 2, 3]]
-}
-
-/// With wet 1 every point is in the middle of its edge. With wet 2 it is a third from the dry end, reckoned
-/// by hand from t = 0x3eaaaaab.
-fn line_points(wet: f32) -> Vec<[f32; 3]> {
-    let moving = if wet == 1.0 {
-        [32.0, 96.0, 192.0, 384.0, 448.0, 480.0, 448.0, 480.0]
-    } else {
-        let bits: [u32; 8] =
-            [0x41aaaaab, 0x42d55555, 0x432aaaab, 0x43d55555, 0x43d55555, 0x43eaaaab, 0x43d55555, 0x43eaaaab];
-        bits.map(f32::from_bits)
-    };
-    vec![
-        [moving[0], 512.0, 512.0],
-        [moving[1], 512.0, 512.0],
-        [moving[2], 512.0, 512.0],
-        [moving[3], 512.0, 512.0],
-        [256.0, moving[4], 512.0],
-        [64.0, moving[5], 512.0],
-        [256.0, 512.0, moving[6]],
-        [64.0, 512.0, moving[7]],
-    ]
-}
-
-fn line_triangles() -> Vec<[u32; 3]> {
-    vec![[0, 1, 7], [2, 3, 6], [0, 5, 1], [2, 4, 3], [3, 4, 6], [2, 6, 4], [0, 7, 5], [1, 5, 7]]
+    for face_centre in FACE_CENTRES {
+        list.push(open("wet on one side of the box", wet_at(&[0], &[face_centre], 1.0)));
+        let barely = wet_at(&[0], &[face_centre], 0.0f32.next_up());
+        list.push(open("barely wet on one side of the box", barely));
+    }
+    list
 }

@@ -5,12 +5,14 @@
 //! - [`sized`]: surveys of a given number of splits, a kind for each shape that a drawing may be slow on.
 //! - [`damage`]: random damaged surveys, each with the refusal it must meet.
 //! - [`lent`]: what stands in lent slices before a drawing, to see what it touches.
-//! - [`refusals`], [`plain`], [`closing`]: document 01's checks, its edges and points, and its section "What
-//!   closing says", written for the reader and not for speed, and with nothing shared with any drawing.
+//! - [`tally`]: how many surveys of a comparison were drawn, and how many refused at the box.
+//! - [`refusals`], [`plain`], [`closing`]: the documents' checks, their edges and points, and "What closing says",
+//!   written for the reader and not for speed, and with nothing shared with any drawing.
 
 pub mod closing;
 pub mod damage;
 pub mod document;
+mod expected;
 pub mod generate;
 pub mod lent;
 mod long_loop;
@@ -20,6 +22,7 @@ pub mod refusals;
 pub mod sized;
 mod soundings;
 pub mod survey;
+pub mod tally;
 mod trees;
 
 pub use survey::Survey;

@@ -1,10 +1,22 @@
-//! Checks 1 to 8 in the words of document 01, "Outputs and refusals". Nothing here is fast.
+//! Checks 1 to 8 in the words of document 01, "Outputs and refusals", and check 12 in those of document 02, "Basins
+//! cut off by the box". Nothing here is fast.
 
 use crate::plain::{corners, entries, octree};
-use crate::survey::DEEPEST;
+use crate::survey::{on_outer_face, DEEPEST};
 use crate::Survey;
 
-/// The first of checks 1 to 8 that refuses a survey; 0 if none does.
+/// The refusal that drawing alone gives, for a wet corner on an outer face.
+pub const OPEN_AT_BOX: u32 = 12;
+
+/// The first refusal of a drawing that the lent slices have no part in: 1 to 8, then 12; 0 if there is none.
+pub fn of_drawing(survey: &Survey) -> u32 {
+    match first(survey) {
+        0 if is_open_at_box(survey) => OPEN_AT_BOX,
+        number => number,
+    }
+}
+
+/// The first of checks 1 to 8 that refuses a survey; 0 if none does. An enquiry has no other before 11.
 pub fn first(survey: &Survey) -> u32 {
     let refuses: [fn(&Survey) -> bool; 8] = [
         |survey| survey.cells.is_empty() || survey.cells.len() % 4 != 0 || survey.cells.len() > 8_196,
@@ -45,6 +57,11 @@ fn falls_or_stays(survey: &Survey) -> bool {
 fn other_corners(survey: &Survey) -> bool {
     let places: Vec<[u16; 3]> = corners(&survey.corners).map(|(place, _)| place).collect();
     places != octree(&survey.cells).corner_places()
+}
+
+/// A survey with a wet corner on an outer face.
+fn is_open_at_box(survey: &Survey) -> bool {
+    corners(&survey.corners).any(|(place, sounding)| on_outer_face(place) && sounding > survey.clearance)
 }
 
 fn out_of_range(number: f32) -> bool {

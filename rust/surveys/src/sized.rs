@@ -1,15 +1,15 @@
-//! Surveys of a given number of splits, to time a drawing by.
+//! Surveys of a given number of splits, to time a drawing by. All have a dry outside, since others are not drawn.
 
 use std::cmp::Reverse;
 
 use crate::long_loop::long_loop_of;
 use crate::random::Random;
 use crate::soundings::distance;
-use crate::survey::{Cube, Octree};
+use crate::survey::{on_outer_face, Cube, Octree};
 use crate::trees::ranked;
 use crate::Survey;
 
-/// The height of the plane, and the middle of the ball on each axis.
+/// The middle of the box on each axis: the height of the plane, and the middle of the ball.
 const MIDDLE: u16 = 512;
 
 /// The radius of the ball.
@@ -18,7 +18,7 @@ const RADIUS: u16 = 300;
 /// A shape of survey.
 #[derive(Clone, Copy, Debug, PartialEq, Eq)]
 pub enum Kind {
-    /// Any leaf is split, and soundings are noise: about every second edge is odd.
+    /// Any leaf is split, and soundings are noise: about every second edge inside the box is odd.
     Random,
     /// The leaves nearest to one corner of the box are split, down to depth 10; soundings are noise.
     Corner,
@@ -48,7 +48,10 @@ pub fn survey(kind: Kind, splits: usize, seed: u64) -> Survey {
         Kind::Corner => noisy(random, &ranked(splits, |cube| cube.low.into_iter().max())),
         Kind::Plane => {
             let octree = ranked(splits, |cube| (!stands_on_plane(cube), Reverse(cube.size)));
-            Survey::new(&octree, |[_, _, z]| f32::from(MIDDLE) + noise(random) / 4.0 + 10.0 - f32::from(z))
+            Survey::new(&octree, |place| {
+                let [_, _, z] = place.map(f32::from);
+                in_basin(place, f32::from(MIDDLE) + noise(random) / 4.0 + 10.0 - z)
+            })
         }
         Kind::Ball => {
             let octree = ranked(splits, |cube| (!meets_ball(cube), Reverse(cube.size)));
@@ -59,7 +62,19 @@ pub fn survey(kind: Kind, splits: usize, seed: u64) -> Survey {
 }
 
 fn noisy(random: &mut Random, octree: &Octree) -> Survey {
-    Survey::new(octree, |_| noise(random))
+    Survey::new(octree, |place| in_basin(place, noise(random)))
+}
+
+/// A sounding, turned where need be: outer faces are dry, so that the survey is drawn, and the centre is wet, so that
+/// there is a surface even after one split, when no other corner is inside.
+fn in_basin(place: [u16; 3], sounding: f32) -> f32 {
+    if on_outer_face(place) {
+        -sounding.abs()
+    } else if place == [MIDDLE; 3] {
+        sounding.abs()
+    } else {
+        sounding
+    }
 }
 
 /// A number from −100 to 100.
@@ -84,8 +99,8 @@ fn meets_ball(cube: Cube) -> bool {
 #[cfg(test)]
 mod tests {
     use super::*;
-    use crate::plain::octree;
-    use crate::refusals::first;
+    use crate::plain::{octree, Edge, Plain};
+    use crate::refusals::of_drawing;
 
     fn surveys() -> impl Iterator<Item = (Kind, usize, Survey)> {
         let sizes = [1, 8, 64, 256];
@@ -95,10 +110,26 @@ mod tests {
     }
 
     #[test]
-    fn they_are_lawful_and_have_the_splits_asked_for() {
+    fn they_are_drawn_and_have_the_splits_asked_for() {
         for (kind, splits, survey) in surveys() {
             assert_eq!(survey.cells.len(), 4 * (1 + 8 * splits), "{kind:?} of {splits}");
-            assert_eq!(first(&survey), 0, "{kind:?} of {splits}");
+            assert_eq!(of_drawing(&survey), 0, "{kind:?} of {splits}");
+            assert!(!Plain::read(&survey).carriers.is_empty(), "{kind:?} of {splits} has no points");
+        }
+    }
+
+    #[test]
+    fn about_every_second_edge_inside_noise_is_odd() {
+        for (kind, splits, survey) in surveys() {
+            if !matches!((kind, splits), (Kind::Random | Kind::Corner, 64..)) {
+                continue;
+            }
+            let plain = Plain::read(&survey);
+            let is_inside = |edge: &&Edge| !on_outer_face(edge.low()) && !on_outer_face(edge.high());
+            let inside: Vec<&Edge> = plain.edges.iter().filter(is_inside).collect();
+            let odd = inside.iter().filter(|&&&edge| plain.is_odd(edge)).count();
+            let percent = 100 * odd / inside.len();
+            assert!((45..=55).contains(&percent), "{kind:?} of {splits}: {percent} per cent");
         }
     }
 

@@ -51,6 +51,11 @@ impl Soundings {
         Soundings { kind, clearance }
     }
 
+    /// Whether a lawful sounding can be wet.
+    pub(crate) fn leaves_room(&self) -> bool {
+        self.clearance < MOST
+    }
+
     /// The sounding at a place.
     pub(crate) fn at(&self, random: &mut Random, place: [u16; 3]) -> f32 {
         let sign = |positive: bool| if positive { 1.0 } else { -1.0 };
@@ -83,6 +88,12 @@ impl Soundings {
         }
         let lower = [self.clearance.next_down(), self.clearance - 1.0, self.clearance - 0.3, -MOST];
         random.pick(&lower).max(-MOST)
+    }
+
+    /// A lawful sounding that is wet, where there is one: the clearance is not the greatest.
+    pub(crate) fn wet(&self, random: &mut Random) -> f32 {
+        let higher = [self.clearance.next_up(), self.clearance + 1.0, self.clearance + 0.3, MOST];
+        random.pick(&higher).min(MOST)
     }
 
     /// A sounding equal to the clearance: a zero of either sign where it is zero.

@@ -45,6 +45,11 @@ fn raised(low: [u16; 3], bits: usize, length: u16) -> [u16; 3] {
     std::array::from_fn(|axis| if bits >> axis & 1 == 1 { low[axis] + length } else { low[axis] })
 }
 
+/// Whether one of the six sides of the box holds a place.
+pub fn on_outer_face(place: [u16; 3]) -> bool {
+    place.contains(&0) || place.contains(&BOX_SIZE)
+}
+
 /// The cells of an octree by record number.
 #[derive(Clone, Debug)]
 pub struct Octree {

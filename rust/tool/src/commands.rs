@@ -68,7 +68,8 @@ const COMMANDS: [Command; 8] = [
         arguments: "DIR",
         summary: "say whether a survey is lawful",
         help: "Prints 'lawful', or 'refused', the number of the first refusal of 1 to 7 that applies, and its words.\n\
-               Reads cells and corners; the clearance is not looked at. A missing file is an error.",
+               Reads cells and corners; the clearance is not looked at. So a lawful survey may still be refused for drawing, by\n\
+               12, if the pool runs out of the surveyed box. A missing file is an error.",
         takes: directory_alone,
         run: check,
     },
@@ -79,7 +80,8 @@ const COMMANDS: [Command; 8] = [
         help: "Prints the listing of document 01's drawing program: the counts; a line 'v' for each point with the bits\n\
                of x, y and z in hexadecimal; a line 't' for each triangle with its point numbers. On refusal prints\n\
                'refused' and the number, and the words on standard error. There is no limit on points and triangles.\n\
-               A missing file counts as empty, as it does for that program.",
+               A pool that runs out of the surveyed box (a corner on an outer face is wet) is refused by 12, so what is drawn\n\
+               is closed. A missing file counts as empty, as it does for that program.",
         takes: directory_alone,
         run: draw,
     },
@@ -88,8 +90,8 @@ const COMMANDS: [Command; 8] = [
         arguments: "DIR AXIS X Y Z LENGTH",
         summary: "ask about one edge",
         help: "Asks about the edge along AXIS (x, y, z or 0, 1, 2) from the lower end (X, Y, Z) over LENGTH. Prints 'even',\n\
-               or 'crossing', the point's number, its x, y and z, and 'lower end wet' or 'upper end wet'. A missing file is\n\
-               an error.",
+               or 'crossing', the point's number, its x, y and z, and 'lower end wet' or 'upper end wet'. A pool that runs\n\
+               out of the surveyed box is answered for too. A missing file is an error.",
         takes: || [vec![path(DIRECTORY), axis(AXIS)], ["X", "Y", "Z", "LENGTH"].map(number).to_vec()].concat(),
         run: enquire,
     },
@@ -97,9 +99,8 @@ const COMMANDS: [Command; 8] = [
         name: "info",
         arguments: "DIR",
         summary: "count cells, corners, points and triangles; give the volume",
-        help: "Prints the cell records, the greatest depth, the leaves, corners, points and triangles, and whether the\n\
-               surface is closed at the box. If so, prints the volume inside; the whole box has 1073741824. A missing file is\n\
-               an error.",
+        help: "Prints the cell records, the greatest depth, the leaves, corners, points and triangles, and the volume inside\n\
+               the surface; the whole box has 1073741824. A missing file is an error.",
         takes: directory_alone,
         run: info,
     },
@@ -200,6 +201,7 @@ fn overview() -> String {
          usage: clearance COMMAND ARGUMENTS\n\n{}\n\
          DIR is a directory with the files cells, corners and clearance (four bytes, a little-endian binary32).\n\
          A corner is wet if its sounding is greater than the clearance; ground exactly at the clearance is dry.\n\
+         A survey with a wet corner on an outer face of the box is not drawn; 'check' and 'enquire' still take it.\n\
          'clearance COMMAND --help' says more of a command.\n\
          Exit status: 0 if all is well, 1 if the survey is refused, 2 if the command line or a file is wrong.\n",
         lines.collect::<String>()

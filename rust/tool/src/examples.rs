@@ -1,4 +1,4 @@
-//! Surveys by name: those of document 01 and one of ground awash, and basins sounded over octrees of several depths.
+//! Surveys by name: those of document 01, two of ground awash, and basins sounded over octrees of several depths, one of which runs out of the box.
 
 use surveys::{document, Survey};
 
@@ -11,7 +11,7 @@ pub struct Example {
     pub name: &'static str,
     /// What it shows.
     pub words: &'static str,
-    /// The number of the refusal it meets; 0 if it is drawn.
+    /// The number of the refusal that its drawing meets; 0 if it is drawn.
     pub refusal: u32,
     /// Makes it.
     pub survey: fn() -> Survey,
@@ -29,6 +29,12 @@ fn lock_chamber() -> Survey {
 /// The pool is round everywhere.
 fn weir_pool() -> Survey {
     refine::survey(shapes::weir_pool, Fineness { graded: true, ..FINENESS })
+}
+
+/// The weir pool with the box laid too far downstream: its upper end is cut off.
+fn open_pool() -> Survey {
+    let cut_off = |[x, y, z]: [f64; 3]| shapes::weir_pool([x + 300.0, y, z]);
+    refine::survey(cut_off, Fineness { graded: true, ..FINENESS })
 }
 
 const fn drawn(name: &'static str, words: &'static str, survey: fn() -> Survey) -> Example {
@@ -51,10 +57,8 @@ pub const EXAMPLES: &[Example] = &[
         weir_pool().at(96.0)
     }),
     drawn("twin", "document 01's twin survey", document::twin),
-    drawn("one-corner", "one leaf, only (0,0,0) wet", document::one_corner_wet),
     drawn("centre", "one split, only the centre wet", document::centre_wet),
     drawn("all-dry", "no corner wet: no points", || document::level(-1.0)),
-    drawn("all-wet", "every corner wet: no points", || document::level(1.0)),
     drawn(
         "opposite-corners",
         "a face with two opposite wet corners: two steps",
@@ -65,7 +69,7 @@ pub const EXAMPLES: &[Example] = &[
     drawn("awash-around", "only the centre wet, the rest at the clearance: points at the dry ends", || {
         document::awash_around(1.0, 0.0, 0.0)
     }),
-    drawn("greatest-sounding", "a sounding of 1,048,576", || document::sounded(1_048_576.0)),
+    drawn("greatest-sounding", "only the centre wet, at 1,048,576", || document::centre_sounded(1_048_576.0)),
     drawn("full", "2,049 cell records, the most there may be", document::full),
     drawn("deepest", "a cell of depth 9 is split", || document::chain(10)),
     refused("refused-1", "8,200 bytes of cells", 1, document::too_many_cells),
@@ -73,6 +77,9 @@ pub const EXAMPLES: &[Example] = &[
     refused("refused-4", "a cell of depth 10 is split", 4, document::too_deep),
     refused("refused-7", "a sounding that is not a number", 7, || document::sounded(f32::NAN)),
     refused("refused-7-beyond", "a sounding of 1,048,576.125", 7, || document::sounded(1_048_576.125)),
+    refused("open-pool", "a weir pool that runs out of the surveyed box", 12, open_pool),
+    refused("one-corner", "one leaf, only (0,0,0) wet: open at the box", 12, document::one_corner_wet),
+    refused("all-wet", "every corner wet: open at the box", 12, || document::level(1.0)),
 ];
 
 /// The example of this name.

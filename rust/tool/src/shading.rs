@@ -4,7 +4,6 @@ use std::collections::HashMap;
 
 use clearance::Mesh;
 
-use crate::facts::runs;
 use crate::view::{cross, dot, plus, unit, way, Camera, Vector};
 
 /// Red, green and blue, each from 0 to 1.
@@ -72,6 +71,11 @@ pub fn faces(mesh: &Mesh, camera: &Camera) -> Vec<Face> {
         })
     };
     mesh.triangles.iter().filter_map(face).collect()
+}
+
+/// From point to point around a triangle.
+fn runs([a, b, c]: &[u32; 3]) -> [[u32; 2]; 3] {
+    [[*a, *b], [*b, *c], [*c, *a]]
 }
 
 /// Twice the area of a triangle along its normal, which faces the dry side.

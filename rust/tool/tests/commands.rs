@@ -33,7 +33,7 @@ fn draw_lists_the_twin_survey_as_the_drawing_program_does() {
 #[test]
 fn draw_lists_more_than_the_drawing_program_lends() {
     let place = Place::new("large");
-    let large = (0..).map(generate::survey).find(|survey| {
+    let large = (0..).map(generate::interior).find(|survey| {
         let drawn = clearance::draw_to_vec(&survey.cells, &survey.corners, survey.clearance);
         drawn.is_ok_and(|mesh| mesh.points.len() > 2_048)
     });
@@ -140,7 +140,7 @@ fn ground_awash_is_dry() {
     let answer = printed(&["enquire", &around, "x", "0", "512", "512", "512"]);
     assert_eq!(answer, "crossing 0 0 512 512 upper end wet\n");
     // The points are the middles of the box's sides.
-    assert!(printed(&["info", &around]).ends_with("closed at the box\nvolume     178956970.667\n"));
+    assert!(printed(&["info", &around]).ends_with("triangles  8\nvolume     178956970.667\n"));
 }
 
 #[test]
@@ -156,11 +156,36 @@ fn enquire_refuses_what_is_no_edge() {
 #[test]
 fn info_counts() {
     let expected = "records    17\ndepth      2\nleaves     15\ncorners    46\nclearance  0\npoints     4\ntriangles  4\n\
-                    surface    closed at the box\nvolume     699050.667\n";
+                    volume     699050.667\n";
     assert_eq!(printed(&["info", &twin()]), expected);
     let place = Place::new("info");
-    assert!(printed(&["info", &place.example("one-corner")]).ends_with("surface    open at the box\n"));
-    assert!(printed(&["info", &place.example("all-dry")]).ends_with("closed at the box\nvolume     0.000\n"));
+    assert!(printed(&["info", &place.example("all-dry")]).ends_with("triangles  0\nvolume     0.000\n"));
+}
+
+#[test]
+fn a_pool_that_runs_out_of_the_box_is_not_drawn_but_enquired_about() {
+    let place = Place::new("open");
+    let directory = place.example("open-pool");
+    assert_eq!(printed(&["check", &directory]), "lawful\n");
+    let words =
+        "clearance: refused 12: the pool runs out of the surveyed box (a corner on an outer face is wet)\n";
+    let draw = run(&["draw", &directory]);
+    assert_eq!((draw.status, draw.out.as_str(), draw.errors.as_str()), (1, "refused 12\n", words));
+    let picture = place.below("picture.png");
+    let others: [&[&str]; 4] = [
+        &["info", &directory],
+        &["obj", &directory],
+        &["ply", &directory],
+        &["render", &directory, &picture],
+    ];
+    for arguments in others {
+        let ran = run(arguments);
+        assert_eq!((ran.status, ran.out.as_str(), ran.errors.as_str()), (1, "", words), "{arguments:?}");
+    }
+    assert!(!place.path.join("picture.png").exists());
+    // Where the pool runs out, at x = 0: from the bed up into the water.
+    let answer = printed(&["enquire", &directory, "z", "0", "512", "256", "256"]);
+    assert!(answer.starts_with("crossing ") && answer.ends_with(" upper end wet\n"), "{answer}");
 }
 
 #[test]

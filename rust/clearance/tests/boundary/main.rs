@@ -15,7 +15,10 @@ use clearance::{Counts, Edge, Refusal, Refused};
 use guarded::{Guarded, Side};
 use number::number;
 use surveys::lent::{self, bits};
-use surveys::{damage, document, generate, plain, refusals, Survey};
+use surveys::plain::{self, Plain};
+use surveys::refusals::{self, OPEN_AT_BOX};
+use surveys::tally::Tally;
+use surveys::{damage, document, generate, Survey};
 
 /// Where slices lie.
 #[derive(Clone, Copy, Debug)]
@@ -78,19 +81,27 @@ impl Lent<'_> {
         floats
     }
 
-    /// Asks, at a few corners, about an edge of each length, most of which no cell has. The answers must be of the points drawn; gives back how many
-    /// were crossing.
-    fn assert_answered(&self, drawn: &[f32]) -> usize {
+    /// Draws a survey with a wet corner on an outer face, which is refused ahead of any slice.
+    fn assert_open(&self) {
+        for (points, triangles) in [(0, 0), (7, 0), (0, 5), (7, 5)] {
+            let refused = Refused { refusal: Refusal::OpenAtBox, counts: Counts::default() };
+            assert_eq!(self.draw(points, triangles).0, Err(refused), "{}: open at the box", self.what);
+        }
+    }
+
+    /// Asks, at a few corners, about an edge of each length, most of which no cell has. The answers must be of these points; gives back how many were
+    /// crossing.
+    fn assert_answered(&self, points: &[f32]) -> usize {
         let places: Vec<_> = plain::corners(&self.corners).map(|(place, _)| place.map(u32::from)).collect();
         let few = places.iter().enumerate().step_by(1 + places.len() / 3);
         let asked = few.flat_map(|(n, &place)| (0..=11).map(move |level| (n as u32 % 4, place, 1 << level)));
-        asked.filter(|&(axis, place, length)| self.is_crossing(drawn, axis, place, length)).count()
+        asked.filter(|&(axis, place, length)| self.is_crossing(points, axis, place, length)).count()
     }
 
-    fn is_crossing(&self, drawn: &[f32], axis: u32, lower_end: [u32; 3], length: u32) -> bool {
+    fn is_crossing(&self, points: &[f32], axis: u32, lower_end: [u32; 3], length: u32) -> bool {
         match clearance::enquire(&self.cells, &self.corners, self.clearance, axis, lower_end, length) {
             Ok(Edge::Crossing { number, place, .. }) => {
-                assert_eq!(bits(&place), bits(&drawn[3 * number as usize..][..3]), "{}", self.what);
+                assert_eq!(bits(&place), bits(&points[3 * number as usize..][..3]), "{}", self.what);
                 true
             }
             Ok(Edge::Even) | Err(Refusal::NoEdge) => false,
@@ -109,36 +120,57 @@ impl Lent<'_> {
     }
 }
 
-/// Makes all calls with slices that a lender lends. Gives back how many enquiries met a crossing edge.
-fn assert_within(survey: &Survey, lender: Lender, what: &str) -> usize {
-    let Survey { cells, corners, clearance } = survey;
-    let (cells, corners) = (lender.table(cells), lender.table(corners));
-    let lent = Lent { lender, cells, corners, clearance: *clearance, what };
-    let refusal = refusals::first(survey);
-    let by_itself = if refusal == 8 { 0 } else { refusal };
-    assert_eq!(number(clearance::check(&lent.cells, &lent.corners)), by_itself, "{what}: check");
-    if refusal != 0 {
-        lent.assert_refused(refusal);
-        return 0;
+/// What was seen of many surveys.
+#[derive(Default)]
+struct Seen {
+    tally: Tally,
+    /// Enquiries that met a crossing edge.
+    crossings: usize,
+}
+
+impl Seen {
+    /// Makes all calls with slices that a lender lends.
+    fn look(&mut self, survey: &Survey, lender: Lender, what: &str) {
+        let Survey { cells, corners, clearance } = survey;
+        let (cells, corners) = (lender.table(cells), lender.table(corners));
+        let lent = Lent { lender, cells, corners, clearance: *clearance, what };
+        let refusal = refusals::first(survey);
+        let by_itself = if refusal == 8 { 0 } else { refusal };
+        assert_eq!(number(clearance::check(&lent.cells, &lent.corners)), by_itself, "{what}: check");
+        match refusals::of_drawing(survey) {
+            0 => {
+                let points = lent.assert_drawn();
+                self.tally.add_drawn(points.len() / 3);
+                self.crossings += lent.assert_answered(&points);
+            }
+            OPEN_AT_BOX => {
+                lent.assert_open();
+                self.tally.add_open();
+                let plain = Plain::read(survey);
+                let points: Vec<f32> = plain.carriers.iter().flat_map(|&edge| plain.place(edge)).collect();
+                self.crossings += lent.assert_answered(&points);
+            }
+            refusal => lent.assert_refused(refusal),
+        }
     }
-    lent.assert_answered(&lent.assert_drawn())
 }
 
 fn assert_all_within(lender: Lender) {
+    let mut others = Seen::default();
     for example in document::checked() {
-        assert_within(&example.survey, lender, example.name);
+        others.look(&example.survey, lender, example.name);
     }
-    assert_within(&generate::long_loop(0), lender, "long loop");
+    others.look(&generate::long_loop(0), lender, "long loop");
     let surveys = std::env::var("CLEARANCE_BOUNDARY").map_or(200, |text| text.parse().expect("a number"));
-    let mut crossings = 0;
+    let mut lawful = Seen::default();
     for seed in 0..surveys {
-        let within =
-            |survey, kind| assert_within(&survey, lender, &format!("{lender:?}, {kind}, seed {seed}"));
-        crossings += within(generate::survey(seed), "survey");
-        within(damage::damaged(seed).survey, "damaged");
-        within(damage::corrupted(seed), "corrupted");
+        let what = |kind| format!("{lender:?}, {kind}, seed {seed}");
+        lawful.look(&generate::mixed(seed), lender, &what("survey"));
+        others.look(&damage::damaged(seed).survey, lender, &what("damaged"));
+        others.look(&damage::corrupted(seed), lender, &what("corrupted"));
     }
-    assert!(crossings as u64 >= surveys / 10, "{crossings} crossing edges");
+    lawful.tally.assert_most_drawn(&format!("{lender:?}"));
+    assert!(lawful.crossings as u64 >= surveys / 10, "{} crossing edges", lawful.crossings);
 }
 
 #[test]

@@ -17,14 +17,25 @@ pub struct Face {
     size: u16,
 }
 
-/// Points and triangles of a lawful survey.
-pub fn draw(plain: &Plain) -> (Vec<f32>, Vec<u32>) {
+/// A drawing of a lawful survey, whatever stands on the outer faces.
+pub struct PlainDrawing {
+    /// x, y and z of each point.
+    pub points: Vec<f32>,
+    /// The points of each loop.
+    pub loops: Vec<Vec<usize>>,
+    /// The three point numbers of each triangle.
+    pub triangles: Vec<u32>,
+}
+
+/// Draws a lawful survey.
+pub fn draw(plain: &Plain) -> PlainDrawing {
     let points = plain.carriers.iter().flat_map(|&edge| plain.place(edge)).collect();
-    let loops = plain.leaves.iter().flat_map(|&leaf| leaf_loops(plain, leaf));
-    let fan = |points: Vec<usize>| {
-        (1..points.len() - 1).flat_map(move |k| [points[0], points[k], points[k + 1]]).collect::<Vec<_>>()
+    let loops: Vec<Vec<usize>> = plain.leaves.iter().flat_map(|&leaf| leaf_loops(plain, leaf)).collect();
+    let fan = |points: &Vec<usize>| {
+        let triangle = |k: usize| [points[0], points[k], points[k + 1]].map(|point| point as u32);
+        (1..points.len() - 1).flat_map(triangle).collect::<Vec<u32>>()
     };
-    (points, loops.flat_map(fan).map(|point| point as u32).collect())
+    PlainDrawing { points, triangles: loops.iter().flat_map(fan).collect(), loops }
 }
 
 fn leaf_loops(plain: &Plain, leaf: Cube) -> Vec<Vec<usize>> {
@@ -83,6 +94,12 @@ pub fn single_steps(plain: &Plain) -> Vec<(Face, (usize, usize))> {
             _ => None,
         })
         .collect()
+}
+
+/// Whether some small face has four odd edges.
+pub fn has_saddle(plain: &Plain) -> bool {
+    let mut faces = plain.leaves.iter().flat_map(|&leaf| small_faces(plain, leaf));
+    faces.any(|face| face_edges(&face).into_iter().all(|edge| plain.is_odd(edge)))
 }
 
 impl Face {
