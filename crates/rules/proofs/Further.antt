@@ -1,5 +1,5 @@
 -- Further surveys under the same statement: drawings and enquiries that tell wrong rules apart which the starred ones let pass; every refusal
--- from 1 to 11; and which one is given where two apply. Refusal 12 is in OpenAtBox.antt.
+-- from 1 to 8, and 11; and which one is given where two apply.
 -- Assumes nothing.
 use Prim.Native.Nat.{ℕ, _+_, _-_, _*_}
 use mathlib.Core.List.{List, [], _∷_, _++_}
@@ -125,10 +125,7 @@ refusals =
     refusedAt beyond 8 leaf oneWet ∷
     refusedAt minusBeyond 8 leaf oneWet ∷
     exampleAt greatest leaf oneWet (drawing 3 3) (0 ∷ 0 ∷ 0 ∷ untouched 3 3) ∷
-    -- 9, 10: a point slice, then a triangle slice, without elements
-    example split centre (drawing 0 24) (9 ∷ 6 ∷ 8 ∷ untouched 0 24) ∷
-    example split centre (drawing 18 0) (10 ∷ 6 ∷ 8 ∷ untouched 18 0) ∷
-    -- 11: a length that is no power of two, an edge that no cell has
+    -- 9 and 10 are among the starred, and 12 is in OpenAtBox.antt; 11: a length that is no power of two, an edge that no cell has
     example leaf oneWet (asking 0 (place 0 0 0) 1000) (11 ∷ []) ∷
     example leaf oneWet (asking 0 (place 0 0 0) 512) (11 ∷ []) ∷ []
 
@@ -161,7 +158,7 @@ unfolding right drawings centre
 drawings-right = each drawings tt
 
 pub refusals-right : Each Right refusals
-unfolding right refusals centre
+unfolding right refusals
 refusals-right = each refusals tt
 
 pub lowest-right : Each Right lowest

@@ -60,9 +60,8 @@ unfolding centre six eight twins
 starred =
     -- one leaf, only (0,0,0) wet: open at the box (request 3)
     example leaf (wetAtOnly (place 0 0 0 ∷ [])) (drawing 10 5) (12 ∷ 0 ∷ 0 ∷ untouched 10 5) ∷
-    -- one split, only the centre wet; the elements past the last are untouched
+    -- one split, only the centre wet
     example split centre (drawing 18 24) (0 ∷ 6 ∷ 8 ∷ six ++ eight) ∷
-    example split centre (drawing 19 26) (0 ∷ 6 ∷ 8 ∷ six ++ oldFloat ∷ eight ++ oldNumber ∷ oldNumber ∷ []) ∷
     example split centre (drawing 17 24) (9 ∷ 6 ∷ 8 ∷ untouched 17 24) ∷
     example split centre (drawing 18 23) (10 ∷ 6 ∷ 8 ∷ untouched 18 23) ∷
     -- all dry; and all wet: open at the box (request 3)
@@ -89,10 +88,10 @@ starred =
     example leaf (λ p. notANumber) (drawing 0 0) (7 ∷ 0 ∷ 0 ∷ []) ∷
     -- an enquiry with axis 3
     example leaf centre (asking 3 (place 0 0 0) 1024) (11 ∷ []) ∷
-    -- the twin survey
-    example twins twinSoundings (drawing 12 12)
-    (0 ∷ 4 ∷ 4 ∷ f128 ∷ f512 ∷ f512 ∷ f384 ∷ f512 ∷ f512 ∷ f256 ∷ f384 ∷ f512 ∷ f256 ∷ f512 ∷ f384 ∷
-    0 ∷ 1 ∷ 3 ∷ 0 ∷ 2 ∷ 1 ∷ 0 ∷ 3 ∷ 2 ∷ 1 ∷ 2 ∷ 3 ∷ []) ∷ []
+    -- the twin survey; the elements past the last are untouched
+    example twins twinSoundings (drawing 13 14)
+    (0 ∷ 4 ∷ 4 ∷ f128 ∷ f512 ∷ f512 ∷ f384 ∷ f512 ∷ f512 ∷ f256 ∷ f384 ∷ f512 ∷ f256 ∷ f512 ∷ f384 ∷ oldFloat ∷
+    0 ∷ 1 ∷ 3 ∷ 0 ∷ 2 ∷ 1 ∷ 0 ∷ 3 ∷ 2 ∷ 1 ∷ 2 ∷ 3 ∷ oldNumber ∷ oldNumber ∷ []) ∷ []
 
 -- Each starred survey gives what document 01 says.
 pub starred-right : Each Right starred
