@@ -27,6 +27,14 @@ pub or-right : (a b : Bool) → T b → T (a || b)
 or-right true b t = tt
 or-right false b t = t
 
+pub or-or : (a b c : Bool) → (a || b) || c ≡ a || (b || c)
+or-or true b c = refl
+or-or false b c = refl
+
+pub or-none : (a : Bool) → a || false ≡ a
+or-none true = refl
+or-none false = refl
+
 pub true→ : (b : Bool) → T b → b ≡ true
 true→ true t = refl
 true→ false t = absurd t

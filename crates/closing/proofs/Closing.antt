@@ -1,8 +1,8 @@
--- Demand 3 of the request: the surface closes for every survey, however the surveyor split the cells.
+-- Demand 3 of the request: the surface closes for every survey that is drawn, however the surveyor split the cells.
 --     closes     whatever tables and clearance are drawable, the drawing of the rules is closed, without exception
---     closed     the same of every lawful survey whose outside is dry, with any wetness, any rule for faces with four odd edges, and any rule that cuts
---                loops into triangles
--- `Closed`, in rules/specs/Closing.antt, is demand 3 word for word, as request 3 of document 02 has it. docs/CLOSING.md tells the argument.
+--     closed     the same of every lawful survey whose corners on outer faces are dry, with any marking of its other corners as wet, any rule for faces with
+--                four odd edges, and any rule that cuts loops into triangles
+-- `Closed`, in rules/specs/Closing.antt, is demand 3 sentence by sentence, the first without its exception. docs/CLOSING.md tells the argument.
 -- Assumes nothing.
 use Prim.Native.Nat.{ℕ}
 use mathlib.Core.List.{List}
@@ -18,9 +18,10 @@ use Rattle.octree.specs.Lawful.{Lawful}
 use Rattle.octree.proofs.Accepted.{drawable→, lawful}
 use Rattle.octree.proofs.Points.{alone}
 use Rattle.closing.specs.Cutting.{Closes}
+use Rattle.closing.specs.Outside.{DryOutside}
 use Rattle.closing.proofs.Cut.{fan-closes}
 use Rattle.closing.proofs.Inside.{closed-inside}
-use Rattle.closing.proofs.Outside.{DryOutside, dry-outside, never-outer}
+use Rattle.closing.proofs.Outside.{dry-outside, never-outer}
 
 pub closed : (s : Survey) → Lawful s → DryOutside s → (cutting : List ℕ → List Triangle) → Closes cutting
     → Closed s (length (pointEdges s)) (trianglesBy cutting s)

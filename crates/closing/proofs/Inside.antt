@@ -1,4 +1,4 @@
--- Demand 3 with document 01's exception about outer faces. It holds of pools that are open at the box too, which are not drawn.
+-- Demand 3 with its exception about outer faces. It holds of pools that are open at the box too, which are not drawn.
 --     closed-inside     of every lawful survey, with any wetness, any rule for faces with four odd edges, and any rule that cuts loops into triangles
 --     closes-inside     of the drawing of the rules, whatever tables and clearance are accepted: not refused by 1 to 8
 -- Assumes nothing.

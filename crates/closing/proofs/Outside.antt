@@ -7,8 +7,7 @@ use mathlib.Core.Bool.{Bool, false, not, _&&_, _||_, Bool·beq}
 use mathlib.Core.List.{List}
 use lib.Dec.{T, not-T, eqb, eqb→eq}
 use lib.Ieee.{Float}
-use Rattle.base.specs.Lists.{any}
-use Rattle.base.specs.Grid.{Place, Axis, axes, along, same}
+use Rattle.base.specs.Grid.{Place, Axis, axes, along}
 use Rattle.base.proofs.Tests.{and→, →and, or→, or-left, or-right, either, eq→eqb, not-both}
 use Rattle.base.proofs.Lists.{In, any→in, in→any}
 use Rattle.base.proofs.Places.{each-axis}
@@ -23,10 +22,7 @@ use Rattle.octree.proofs.Accepted.{drawable→}
 use Rattle.octree.proofs.Corners.{corner-there, at-listed}
 use Rattle.octree.proofs.Edges.{lower-end, upper-end, undivided→, crossed→}
 use Rattle.octree.proofs.Points.{carried-crossed}
-
--- no corner on an outer face is wet
-abbrev pub DryOutside : Survey → Type 0
-DryOutside s = (q : Place) → T (any (same q) (s .places)) → T (isOuter q) → s .isWet q ≡ false
+use Rattle.closing.specs.Outside.{DryOutside}
 
 -- ---- a drawable survey
 
@@ -36,7 +32,9 @@ unfolding openAtBox
 dry-corner tk clearance shut c i outer = go (either (wet clearance c))
   where
     go : T (wet clearance c) ⊎ (wet clearance c ≡ false) → wet clearance c ≡ false
-    go (inl w) = absurd (not-both (in→any (λ c. isOuter (placeOf c) && wet clearance c) (cornersOf tk) c i (→and (isOuter (placeOf c)) (wet clearance c) outer w)) shut)
+    go (inl w) =
+        let both = →and (isOuter (placeOf c)) (wet clearance c) outer w in
+        absurd (not-both (in→any (λ c. isOuter (placeOf c) && wet clearance c) (cornersOf tk) c i both) shut)
     go (inr d) = d
 
 pub dry-outside : (tc tk : List ℕ) (clearance : Float) → T (drawable tc tk clearance) → DryOutside (surveyOf tc tk clearance)
@@ -46,14 +44,14 @@ dry-outside tc tk clearance ok q listed outer =
     let P : Corner → Type 0 = λ c. T (isOuter (placeOf c)) → wet clearance c ≡ false in
     at-listed P (cornersOf tk) q (dry-corner tk clearance shut) listed (subst (λ p. T (isOuter p)) (sym (corner-there (cornersOf tk) q)) outer)
 
--- ---- no point lies in an outer face
+-- ---- no point's edge lies in an outer face
 
 -- an odd edge has a wet end
 dry-even : (s : Survey) (e : CellEdge) → s .isWet (e .low) ≡ false → s .isWet (upperEnd e) ≡ false → T (isOdd s e) → ⊥
 unfolding odd
 dry-even s e a b o = subst (λ (t : Bool). T t) (ap₂ (λ (x y : Bool). not (Bool·beq x y)) a b) o
 
--- the two ends of the box on an axis
+-- a place at an end of the box on an axis is on an outer face
 outer-at : (q : Place) (a : Axis) (v : ℕ) → (v ≡ 0) ⊎ (v ≡ 1024) → T (eqb v (along a q)) → T (isOuter q)
 outer-at q a v w t = in→any (λ a. eqb (along a q) 0 || eqb (along a q) 1024) axes a (each-axis a) (go w)
   where
@@ -74,7 +72,7 @@ module _ (s : Survey) (law : Lawful s) (dry : DryOutside s) (e : CellEdge) (p : 
       dry-even s e (dry (e .low) (lower-end s law (e .axis) (e .low) (e .level) is) (outer-at (e .low) a v w (ends .0)))
       (dry (upperEnd e) (upper-end s law (e .axis) (e .low) (e .level) is) (outer-at (upperEnd e) a v w (ends .1))) (c .1)
 
-  -- so document 01's exception excepts nothing
+  -- so demand 3's exception excepts nothing
   pub never-outer : (f : CellEdge) → T (not (inOneFace e f))
   never-outer f = not-T (inOneFace e f) (λ t. let a = any→in both axes t in go (a .0) (or→ (at (a .0) 0) (at (a .0) 1024) (a .2)))
     where

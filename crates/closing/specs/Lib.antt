@@ -1,3 +1,4 @@
 pub mod Cutting
 pub mod Permutes
+pub mod Outside
 pub mod Wrong

@@ -1,12 +1,13 @@
 -- Whether a pool is open at the box, one corner record after the other.
 use Prim.Native.Nat.{ℕ, _+_, _/_, _≤_, _<_}
 use mathlib.Core.Path.{_≡_, refl, sym, ap, _∙_}
-use mathlib.Core.Bool.{Bool, true, false, _&&_, _||_}
+use mathlib.Core.Bool.{Bool, false, _&&_, _||_}
 use mathlib.Core.List.{List}
 use native.Mathlib.Omega.{arith}
 use lib.Ieee.{Float}
 use lib.ListN.{length, drop, drop-of-length-le}
 use Rattle.base.specs.Lists.{any}
+use Rattle.base.proofs.Tests.{or-or, or-none}
 use Rattle.base.proofs.Below.{rest}
 use Rattle.rules.specs.Survey.{cornerRecord, cornersOf, placeOf, wet}
 use Rattle.rules.specs.OpenAtBox.{isOuter, openAtBox}
@@ -15,14 +16,6 @@ use Rattle.records.proofs.Keys.{length-corners, get-corner, nowhere}
 
 abbrev pub opening : Float → Corner → Bool
 opening clearance c = isOuter (placeOf c) && wet clearance c
-
-or-further : (a b c : Bool) → a || (b || c) ≡ (a || b) || c
-or-further true b c = refl
-or-further false b c = refl
-
-or-none : (a : Bool) → a || false ≡ a
-or-none true = refl
-or-none false = refl
 
 module _ (t : List ℕ) (clearance : Float) where
   -- the pool is open at the box: by the records before k, or by those from k on
@@ -40,7 +33,7 @@ module _ (t : List ℕ) (clearance : Float) where
       is
       ∙ ap (λ l. opened || any f l) (rest (cornersOf t) k nowhere (omega (arith, length-corners t)))
       ∙ ap (λ c. opened || (f c || any f cs)) (get-corner t k nowhere h)
-      ∙ or-further opened (f (cornerRecord t k)) (any f cs)
+      ∙ sym (or-or opened (f (cornerRecord t k)) (any f cs))
 
   pub all-passed : (k : ℕ) (opened : Bool) → length t / 10 ≤ k → OpenSoFar k opened → opened ≡ openAtBox t clearance
   all-passed k opened h is =

@@ -1,4 +1,4 @@
--- What each check gives where it finds nothing to refuse; and an accepted survey is lawful.
+-- The first check that applies; what each check gives where it finds nothing to refuse, of accepted and of drawable surveys; and an accepted survey is lawful.
 use Prim.Native.Nat.{ℕ, _^_}
 use mathlib.Core.Path.{_≡_, refl, sym, ap, _∙_, subst}
 use mathlib.Core.Logic.{_⊎_, inl, inr}
@@ -120,16 +120,6 @@ accepted→ tc tk clearance t =
     let eight : ℕ × Bool = (8, not (inRange clearance)) in
     let none = first-none (surveyChecks tc tk) (eight ∷ []) (unfold surveyChecks in tt) (eqb→eq (firstOf (checks tc tk clearance)) 0 t) in
     (none .0, passed (inRange clearance) (none-applies (eight ∷ []) tt (none .1) eight (inl refl)))
-
-pub →accepted : (tc tk : List ℕ) (clearance : Float) → surveyRefusal tc tk ≡ 0 → T (inRange clearance) → T (accepted tc tk clearance)
-unfolding accepted checks surveyRefusal
-→accepted tc tk clearance h t =
-    eq→eqb (firstOf (checks tc tk clearance)) 0
-    (first-append (surveyChecks tc tk) ((8, not (inRange clearance)) ∷ []) (unfold surveyChecks in tt) ∙ go (surveyRefusal tc tk) (inRange clearance) h t)
-  where
-    go : (n : ℕ) (r : Bool) → n ≡ 0 → T r → cond (eqb n 0) (cond (not r) 8 0) n ≡ 0
-    go n true h t = subst (λ m. cond (eqb m 0) 0 m ≡ 0) (sym h) refl
-    go n false h t = absurd t
 
 -- drawable: accepted, and not open at the box
 pub drawable→ : (tc tk : List ℕ) (clearance : Float) → T (drawable tc tk clearance) → T (accepted tc tk clearance) × (openAtBox tk clearance ≡ false)

@@ -129,7 +129,7 @@ refusals =
     example leaf oneWet (asking 0 (place 0 0 0) 1000) (11 ∷ []) ∷
     example leaf oneWet (asking 0 (place 0 0 0) 512) (11 ∷ []) ∷ []
 
--- Of two refusals that both apply, the lower one is given. No survey that passes 7 can have 8 and 9, or 8 and 10, apply: at a clearance that is
+-- Of two refusals that both apply, the one checked first is given: here the lower number; 12, which is checked between 8 and 9, is in OpenAtBox.antt. No survey that passes 7 can have 8 and 9, or 8 and 10, apply: at a clearance that is
 -- refused by 8 all its corners are dry, or all are wet, so it has no point, and no slice is too short.
 unfoldable pub lowest : List Example
 lowest =
@@ -141,7 +141,7 @@ lowest =
     refused 5 (withCorners twice split) oneWet ∷
     refused 6 (withCorners (leaf .corners) split) (λ p. notANumber) ∷
     refusedAt notANumber 7 leaf (λ p. notANumber) ∷
-    -- 7, 8 and 9: one corner is wet, by a sounding beyond the greatest, at a clearance beyond it
+    -- 7, 8, 12 and 9: one corner is wet, by a sounding beyond the greatest, at a clearance beyond it
     refusedAt beyond 7 leaf (at (place 0 0 0 ∷ []) infinity minusOne) ∷
     -- 9 and 10
     example split centre (drawing 17 23) (9 ∷ 6 ∷ 8 ∷ untouched 17 23) ∷

@@ -30,7 +30,7 @@ f768 = 0x4440_0000
 abbrev pub f1024 : ℕ
 f1024 = 0x4480_0000
 
--- 512 / 1,048,577, and 1,024 less that
+-- 512 / 1,048,577 rounded, and 1,024 less that, rounded
 abbrev low : ℕ
 low = 0x39ff_fff0
 
@@ -93,7 +93,7 @@ starred =
     (0 ∷ 4 ∷ 4 ∷ f128 ∷ f512 ∷ f512 ∷ f384 ∷ f512 ∷ f512 ∷ f256 ∷ f384 ∷ f512 ∷ f256 ∷ f512 ∷ f384 ∷ oldFloat ∷
     0 ∷ 1 ∷ 3 ∷ 0 ∷ 2 ∷ 1 ∷ 0 ∷ 3 ∷ 2 ∷ 1 ∷ 2 ∷ 3 ∷ oldNumber ∷ oldNumber ∷ []) ∷ []
 
--- Each starred survey gives what document 01 says.
+-- Each starred survey gives what document 01 says, as document 02 has changed it.
 pub starred-right : Each Right starred
 unfolding right starred
 starred-right = each starred tt

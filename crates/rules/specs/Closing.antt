@@ -1,4 +1,5 @@
--- Document 01, "What closing says", with demand 3 of the request as the record `Closed`: without exception, as request 3 of document 02 wants it.
+-- Document 01, "What closing says", with demand 3 of the request as the record `Closed`, without the exception that the request made: so wants it document 02,
+-- request 3.
 use Prim.Native.Nat.{ℕ, zero, suc, _+_, _*_, _<_, _≤_}
 use mathlib.Core.Path.{_≡_}
 use mathlib.Core.Bool.{Bool, not, _&&_, _||_}
@@ -21,14 +22,6 @@ cellEdgesOn c a = map (λ p. edge a p (c .level)) (collect (pair (next a) (size 
 -- the edges of all cells, each once: those that several cells have are one edge
 unfoldable pub allEdges : List Cell → List CellEdge
 allEdges cells = distinct sameEdge (collect (λ c. collect (cellEdgesOn c) axes) cells)
-
--- an edge lies in the outer face at v, which is 0 or 1,024, of an axis: both its ends do
-abbrev pub liesIn : CellEdge → Axis → ℕ → Bool
-liesIn e a v = eqb v (along a (e .low)) && eqb v (along a (upperEnd e))
-
--- both edges lie in one outer face of the box
-abbrev pub inOneFace : CellEdge → CellEdge → Bool
-inOneFace e f = any (λ a. (liesIn e a 0 && liesIn f a 0) || (liesIn e a 1024 && liesIn f a 1024)) axes
 
 -- an edge carries point p: p is its number in the order of points
 abbrev pub Carries : Survey → CellEdge → ℕ → Type 0
@@ -56,7 +49,7 @@ runs p q ts = sum (run (step p q)) ts
 abbrev pub meets : ℕ → Triangle → Bool
 meets p t = eqb p (t .0) || (eqb p (t .1) || eqb p (t .2))
 
--- What demand 3 says of points, of a survey at a clearance, a point count and triangles.
+-- What demand 3 says of points, and document 01 of their numbers: of a survey at a clearance, a point count and triangles.
 pub record Carried (s : Survey) (count : ℕ) (triangles : List Triangle) : Type 0 where
   -- every undivided edge with one wet and one dry end carries exactly one crossing point, met by some triangle
   pub crossing : (e : CellEdge) → T (isUndivided s e) → T (isOdd s e)
@@ -75,12 +68,6 @@ pub record Closed (s : Survey) (count : ℕ) (triangles : List Triangle) : Type 
   pub balance : (p q : ℕ) → p < count → q < count → runs p q triangles ≡ runs q p triangles
   pub carried : Carried s count triangles
 
--- Demand 3 with document 01's exception, of whatever is accepted: an open pool too, which is not drawn.
-pub record ClosedInside (s : Survey) (count : ℕ) (triangles : List Triangle) : Type 0 where
-  -- the same balance, for every two crossing points whose edges don't both lie in one outer face of the box
-  pub balance : (e f : CellEdge) (p q : ℕ) → Carries s e p → Carries s f q → T (not (inOneFace e f)) → runs p q triangles ≡ runs q p triangles
-  pub carried : Carried s count triangles
-
 -- the triangles in the first elements of a slice, three for each of n
 abbrev pub trianglesIn : ℕ → List ℕ → List Triangle
 trianglesIn zero ts = []
@@ -97,3 +84,19 @@ pub record ClosedIn (tc tk : List ℕ) (clearance : Float) (r : Drawn) (points :
       → take 3 (drop (3 * p) points) ≡ coordinates (spotOn (cornersOf tk) clearance e)
   -- and that place never leaves the edge
   pub on-edge : (e : CellEdge) (p : ℕ) → Carries (surveyOf tc tk clearance) e p → OnEdge e (spotOn (cornersOf tk) clearance e)
+
+-- ---- the exception that demand 3 had before request 3
+
+-- an edge lies in the outer face at v, which is 0 or 1,024, of an axis: both its ends do
+abbrev pub liesIn : CellEdge → Axis → ℕ → Bool
+liesIn e a v = eqb v (along a (e .low)) && eqb v (along a (upperEnd e))
+
+-- both edges lie in one outer face of the box
+abbrev pub inOneFace : CellEdge → CellEdge → Bool
+inOneFace e f = any (λ a. (liesIn e a 0 && liesIn f a 0) || (liesIn e a 1024 && liesIn f a 1024)) axes
+
+-- Demand 3 with its exception: a law of whatever is accepted, an open pool too, which is not drawn. No contract has it.
+pub record ClosedInside (s : Survey) (count : ℕ) (triangles : List Triangle) : Type 0 where
+  -- the same balance, for every two crossing points whose edges don't both lie in one outer face of the box
+  pub balance : (e f : CellEdge) (p q : ℕ) → Carries s e p → Carries s f q → T (not (inOneFace e f)) → runs p q triangles ≡ runs q p triangles
+  pub carried : Carried s count triangles

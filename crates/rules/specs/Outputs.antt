@@ -1,5 +1,5 @@
--- Document 01, "Outputs and refusals": the checks in their order, and what each call gives for every input. Of document 02, the enquiry's answer has the wet end
--- (request 1), and drawing has check 12 (request 3).
+-- Document 01, "Outputs and refusals": the checks in their order, and what each call gives for every input. Of document 02, the enquiry's answer has the
+-- wet end (request 1), and drawing has check 12 (request 3).
 use Prim.Native.Nat.{ℕ, suc, _+_, _*_, _%_, _^_}
 use mathlib.Core.Bool.{Bool, true, false, not, _&&_, _||_, cond}
 use mathlib.Core.List.{List, [], _∷_, _++_, map}
@@ -95,7 +95,7 @@ unfoldable pub drawingChecks : List ℕ → List ℕ → Float → List (ℕ × 
 unfolding checks openAtBox
 drawingChecks tc tk clearance = checks tc tk clearance ++ (12, openAtBox tk clearance) ∷ []
 
--- drawable: accepted, and not open at the box
+-- drawable: check 12 and every check before it find nothing to refuse
 unfoldable pub drawable : List ℕ → List ℕ → Float → Bool
 unfolding drawingChecks
 drawable tc tk clearance = eqb (firstOf (drawingChecks tc tk clearance)) 0

@@ -19,6 +19,7 @@ use lib.ListN.{length, getD, set, take, length-set, replicate, length-replicate,
 use lib.Seq.{getD-set-same, getD-set-other, getD-take, length-take-le}
 use borrow.Author.Tests.{eq-eqb, ne-eqb, lt-ltb, le-ltb}
 use Rattle.base.specs.Lists.{first, bit, keep, count, sum}
+use Rattle.base.proofs.Tests.{or-or, or-none}
 use Rattle.base.proofs.Lists.{count-in}
 use Rattle.base.proofs.Sums.{sum-one, sum-same, sum-add, sum-keep, sum-keep-le, count-once}
 use Rattle.base.proofs.Counts.{in-often, length-count}
@@ -29,14 +30,6 @@ use Rattle.trace.specs.Trace.{Traced, nextAt, markAt, metAt, metCount, m
 or-true : (a : Bool) → a || true ≡ true
 or-true true = refl
 or-true false = refl
-
-or-or : (a b c : Bool) → (a || b) || c ≡ a || (b || c)
-or-or true b c = refl
-or-or false b c = refl
-
-or-nothing : (a : Bool) → a || false ≡ a
-or-nothing true = refl
-or-nothing false = refl
 
 -- ---- steps from a point
 
@@ -132,7 +125,7 @@ kept-more test limit a l e = omega (
 
     share : (x : ℕ) → Dec (x ≡ a) → cond (test x || eqb x a) 1 0 ≡ cond (test x) 1 0 + bit (eqb a x)
     share x (yes p) = let off : test x ≡ false = ap test p ∙ e in rw (off, eq-eqb x a p, eq-eqb a x (sym p))
-    share x (no d) = rw (ne-eqb x a d, ne-eqb a x (λ p. d (sym p)), or-nothing (test x)) (omega arith)
+    share x (no d) = rw (ne-eqb x a d, ne-eqb a x (λ p. d (sym p)), or-none (test x)) (omega arith)
 
 left-keeps : (limit : ℕ) (test : ℕ → Bool) (t : List ℕ) (a b : ℕ) → Listed limit test t → Listed limit test (leaveAt t a b)
 left-keeps limit test t a b h = go (eqb (nextAt t a) 65535)
@@ -198,12 +191,12 @@ module _ (limit : ℕ) (test : ℕ → Bool) (t : List ℕ) (a : ℕ) (h : Liste
           ∙ getD-set-other (set t (3 * a + 2) 1) (3 * metCount t + 3) (3 * a + 2) a 0 (λ q. omega arith)
           ∙ getD-set-same t (3 * a + 2) 1 0 (omega (arith, h .room)))
       mark v l (no d) =
-          same (3 * v + 2) (λ q. d (omega arith)) (λ q. omega arith) (λ q. omega arith) ∙ h .mark v l ∙ rw (ne-eqb v a d, or-nothing (test v))
+          same (3 * v + 2) (λ q. d (omega arith)) (λ q. omega arith) (λ q. omega arith) ∙ h .mark v l ∙ rw (ne-eqb v a d, or-none (test v))
 
       listed : (v : ℕ) → Dec (v ≡ a) → test v || eqb v a ≡ true → (i : ℕ) × (i < metCount new) × (metAt new i ≡ v)
       listed v (yes p) e = (metCount t, omega (arith, counts), last ∙ sym p)
       listed v (no d) e =
-          let o = h .listed v (sym (rw (ne-eqb v a d) (or-nothing (test v))) ∙ e) in
+          let o = h .listed v (sym (rw (ne-eqb v a d) (or-none (test v))) ∙ e) in
           (o .0, omega (arith, counts, o .1), earlier (o .0) (o .1) ∙ o .2)
 
       lists : (i : ℕ) → i < metCount new → Dec (i ≡ metCount t) → metAt new i < limit
@@ -223,7 +216,7 @@ module _ (limit : ℕ) (test : ℕ → Bool) (t : List ℕ) (a : ℕ) (h : Liste
         where
           before : (v : ℕ) → Dec (v ≡ a) → test v ≡ test v || eqb v a
           before v (yes p) = ap test p ∙ e ∙ sym (rw (eq-eqb v a p) (or-true (test v)))
-          before v (no d) = sym (rw (ne-eqb v a d) (or-nothing (test v)))
+          before v (no d) = sym (rw (ne-eqb v a d) (or-none (test v)))
       go false e =
           let bare : eqb (markAt t a) 65535 ≡ true = eq-eqb (markAt t a) 65535 (h .mark a la ∙ ap markOf e) in
           let few : metCount t < limit = omega (arith, h .counted, kept-more test limit a la e, kept-few (λ v. test v || eqb v a) limit) in
@@ -247,7 +240,7 @@ one-more limit ss t a b la lb h = record {
   where
     met-by : (v : ℕ) → meets (ss ++ (a, b) ∷ []) v ≡ meets ss v || (eqb v a || eqb v b)
     met-by v =
-        any-append (λ t. eqb v (t .0) || eqb v (t .1)) ss ((a, b) ∷ []) ∙ ap (λ (c : Bool). meets ss v || c) (or-nothing (eqb v a || eqb v b))
+        any-append (λ t. eqb v (t .0) || eqb v (t .1)) ss ((a, b) ∷ []) ∙ ap (λ (c : Bool). meets ss v || c) (or-none (eqb v a || eqb v b))
 
     first : Met-more limit (meets ss) (leaveAt t a b) a
     first = met-more limit (meets ss) (leaveAt t a b) a (left-keeps limit (meets ss) t a b (listed-part limit ss t h)) la
@@ -263,7 +256,7 @@ one-more limit ss t a b la lb h = record {
     inside : (v : ℕ) → Dec (v ≡ a) → Dec (v ≡ b) → meets ss v || (eqb v a || eqb v b) ≡ true → v < limit
     inside v (yes p) q e = omega arith
     inside v (no p) (yes q) e = omega arith
-    inside v (no p) (no q) e = h .within v (sym (rw (ne-eqb v a p, ne-eqb v b q) (or-nothing (meets ss v))) ∙ e)
+    inside v (no p) (no q) e = h .within v (sym (rw (ne-eqb v a p, ne-eqb v b q) (or-none (meets ss v))) ∙ e)
 
 -- what held some steps now holds these after them
 pub traced-more : (limit : ℕ) (new ss : List Step) (t : List ℕ) → Within limit new → Traced limit ss t → Traced limit (ss ++ new) (recorded new t)

@@ -1,7 +1,7 @@
 -- `records::is_outer` meets its contract: one axis after the other.
 use borrow.Author.Needs.{needs}
-use mathlib.Core.Path.{_≡_, refl}
-use mathlib.Core.Bool.{Bool, true, false, _||_}
+use mathlib.Core.Path.{refl, sym}
+use Rattle.base.proofs.Tests.{or-none}
 use Rattle.records.proofs.is_outer.Statement.{statement}
 use Rattle.records.proofs.is_outer.Tie as tie
 
@@ -13,10 +13,6 @@ is-end-requires-2 c κs = search needs
 
 is-end-requires-3 : tie.Need-is-end-requires-3
 is-end-requires-3 c κs = search needs
-
-or-none : (a : Bool) → a ≡ a || false
-or-none true = refl
-or-none false = refl
 
 returns : tie.Need-returns
 returns c = rw (← c .before .is-end .ensures, c .if1 .taken) refl
@@ -32,7 +28,7 @@ returns-3 c =
     let e = c .before in
     let y = e .before in
     let x = y .before in
-    rw (← x .before .is-end .ensures, x .if1 .left, ← y .is-end2 .ensures, e .if2 .left, ← c .is-end3 .ensures) (or-none (c .is-end3 .result))
+    rw (← x .before .is-end .ensures, x .if1 .left, ← y .is-end2 .ensures, e .if2 .left, ← c .is-end3 .ensures) (sym (or-none (c .is-end3 .result)))
 
 pub is-outer-spec : {M : Type 1} → statement M
 is-outer-spec = tie.close (tie.spec is-end-requires is-end-requires-2 is-end-requires-3 returns returns-2 returns-3)
