@@ -96,7 +96,7 @@ enum clearance_end {
 struct clearance_reply {
     uint32_t number; /* 0, or the first refusal of 1 to 8 or 11 that applies; then all else is 0 */
     uint32_t crossing; /* 1 if one end is wet and one is dry; 0 if the edge is even, and then all else is 0 */
-    uint32_t point; /* the number of the edge's point: its place among the points of a drawing, from 0 */
+    uint32_t point; /* the number of the edge's point among the survey's crossing points at this clearance, from 0; a drawing, if any (12), has this order */
     float x; /* where the point is */
     float y;
     float z;

@@ -41,7 +41,8 @@ pub enum Edge {
     Even,
     /// One end is wet and one is dry.
     Crossing {
-        /// The number of the edge's crossing point: its place among the points of a drawing.
+        /// The number of the edge's crossing point among those of the survey at this clearance, from 0, also where
+        /// it is not drawn ([`OpenAtBox`](crate::Refusal::OpenAtBox)). A drawing has its points in this order.
         number: u32,
         /// Where the point is: x, y and z.
         place: [f32; 3],

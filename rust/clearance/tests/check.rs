@@ -15,19 +15,16 @@ fn assert_same(survey: &Survey, what: &str) -> u32 {
 #[test]
 fn the_surveys_of_the_document() {
     for example in document::checked() {
-        assert_same(&example.survey, example.name);
+        assert_same(&example.survey, &example.name);
     }
 }
 
 #[test]
 fn lawful_surveys_pass() {
-    for seed in 0..5_000 {
-        assert_eq!(assert_same(&generate::survey(seed), &format!("survey, seed {seed}")), 0, "seed {seed}");
-        assert_eq!(
-            assert_same(&generate::interior(seed), &format!("interior, seed {seed}")),
-            0,
-            "seed {seed}"
-        );
+    let any_outside = generate::named("survey", 0..5_000, generate::survey);
+    let dry_outside = generate::named("interior", 0..5_000, generate::interior);
+    for (what, survey) in any_outside.chain(dry_outside) {
+        assert_eq!(assert_same(&survey, &what), 0, "{what}");
     }
 }
 
@@ -36,11 +33,12 @@ fn damaged_tables_are_refused_alike() {
     for refusal in 1..=7 {
         for seed in 0..1_500 {
             let survey = damage::damaged_for(refusal, seed).survey;
-            assert_eq!(assert_same(&survey, &format!("refusal {refusal}, seed {seed}")), refusal);
+            let what = format!("damaged for {refusal}, seed {seed}");
+            assert_eq!(assert_same(&survey, &what), refusal, "{what}");
         }
     }
     for seed in 0..10_000 {
-        assert_same(&damage::damaged(seed).survey, &format!("several, seed {seed}"));
+        assert_same(&damage::damaged(seed).survey, &format!("damaged, seed {seed}"));
     }
 }
 

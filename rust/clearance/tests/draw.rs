@@ -1,6 +1,7 @@
 //! The compiled drawing against the independent Rust drawing, bit for bit, with guard elements around both slices and NaNs of many patterns in them
-//! beforehand; demand 3 counted on what came back, and points looked for where ground is awash. By far most of the random surveys are drawn, and each
-//! test says how many; the others are refused for a wet corner on an outer face. Each failure names the seed that makes the survey again.
+//! beforehand; demand 3 counted on what came back, and points looked for where ground is awash. Each failure names the generator and the seed that make
+//! the survey again. Some tests mix surveys that are drawn, by far most, with surveys that are refused for a wet corner on an outer face, and print how
+//! many there were of each.
 //! `CLEARANCE_SMALL` and `CLEARANCE_LARGE` set how many random surveys there are.
 
 mod number;
@@ -176,16 +177,16 @@ fn large() -> u64 {
 fn the_surveys_of_the_document() {
     for example in document::drawn() {
         let (points, triangles) = (3 * example.points.len(), 3 * example.triangles.len());
-        let (result, floats, numbers) = assert_same(&example.survey, points, triangles, example.name);
+        let (result, floats, numbers) = assert_same(&example.survey, points, triangles, &example.name);
         assert_eq!(result.number, 0, "{}", example.name);
         assert_eq!(bits(&floats), bits(&example.points.concat()), "{}", example.name);
         assert_eq!(numbers, example.triangles.concat(), "{}", example.name);
     }
     for example in document::checked() {
-        let (result, ..) = assert_same(&example.survey, 64, 64, example.name);
+        let (result, ..) = assert_same(&example.survey, 64, 64, &example.name);
         match example.refusal {
             0 => assert_eq!(result.number, 0, "{}", example.name),
-            OPEN_AT_BOX => assert_open(&example.survey, example.name),
+            OPEN_AT_BOX => assert_open(&example.survey, &example.name),
             refusal => assert_eq!(result.number, refusal, "{}", example.name),
         }
     }
@@ -195,7 +196,7 @@ fn the_surveys_of_the_document() {
 fn small_surveys() {
     let mut seen = Seen::default();
     for seed in 0..small() {
-        seen.look(&generate::small_mixed(seed, 8), &format!("small, seed {seed}"));
+        seen.look(&generate::small_mixed(seed, 8), &format!("small mixed, seed {seed}"));
     }
     seen.assert_many(small(), "small surveys");
 }
@@ -204,7 +205,7 @@ fn small_surveys() {
 fn surveys_of_every_size() {
     let mut seen = Seen::default();
     for seed in 0..large() {
-        seen.look(&generate::mixed(seed), &format!("survey, seed {seed}"));
+        seen.look(&generate::mixed(seed), &format!("mixed, seed {seed}"));
     }
     seen.assert_many(large(), "surveys of every size");
 }
@@ -255,9 +256,10 @@ fn loops_of_many_hundred_points() {
 #[test]
 fn more_triangles_than_the_scratch_holds() {
     let survey = generate::interior(2_565);
-    let (counts, ..) = assert_same(&survey, 0, 0, "many triangles");
+    let what = "interior, seed 2565";
+    let (counts, ..) = assert_same(&survey, 0, 0, what);
     assert!(counts.triangles > 10_240, "{} triangles", counts.triangles);
-    assert_drawn(&survey, "many triangles");
+    assert_drawn(&survey, what);
 }
 
 #[test]

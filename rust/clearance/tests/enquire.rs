@@ -117,12 +117,11 @@ fn every_edge_and_many_that_no_cell_has() {
     let mut met = [0usize; 4];
     let mut divided = [0usize; 2];
     let mut open = 0;
-    let any_outside = (0..25).map(|seed| generate::small_survey(seed, 6));
-    let dry_outside = (0..10).map(|seed| generate::small_interior(seed, 6));
-    for (number, survey) in any_outside.chain(dry_outside).enumerate() {
+    let any_outside = generate::named("small survey", 0..25, |seed| generate::small_survey(seed, 6));
+    let dry_outside = generate::named("small interior", 0..10, |seed| generate::small_interior(seed, 6));
+    for (what, survey) in any_outside.chain(dry_outside) {
         open += usize::from(refusals::of_drawing(&survey) == OPEN_AT_BOX);
         let plain = Plain::read(&survey);
-        let what = format!("survey {number}");
         for (place, _) in plain::corners(&survey.corners) {
             for (axis, level) in (0..3).flat_map(|axis| (0..=10).map(move |level| (axis, level))) {
                 match assert_same(&survey, axis, place.map(u32::from), 1 << level, &what) {
@@ -147,9 +146,9 @@ fn every_edge_and_many_that_no_cell_has() {
 
 #[test]
 fn large_surveys() {
-    for seed in 0..60 {
-        let survey = if seed % 2 == 0 { generate::survey(seed) } else { generate::interior(seed) };
-        let what = format!("seed {seed}");
+    let any_outside = generate::named("survey", 0..30, generate::survey);
+    let dry_outside = generate::named("interior", 30..60, generate::interior);
+    for (what, survey) in any_outside.chain(dry_outside) {
         for (n, place) in places(&survey).enumerate().step_by(7) {
             assert_same(&survey, (n % 3) as u32, place, 1 << (n % 11), &what);
         }
@@ -198,7 +197,7 @@ fn places_of_random_soundings() {
         let plain = Plain::read(&survey);
         for axis in 0..3 {
             let [_, point, place @ .., wet_end] =
-                assert_same(&survey, axis, [0, 0, 0], 1_024, &format!("pair, seed {seed}"));
+                assert_same(&survey, axis, [0, 0, 0], 1_024, &format!("one leaf, seed {seed}"));
             if point == 0 {
                 continue;
             }

@@ -97,7 +97,7 @@ fn listings_and_refusals() {
     );
     let [mut drawn, mut open] = [0; 2];
     for seed in 0..60 {
-        match assert_printed(&program, &generate::mixed(seed), &format!("survey, seed {seed}")).as_str() {
+        match assert_printed(&program, &generate::mixed(seed), &format!("mixed, seed {seed}")).as_str() {
             "refused 12\n" => open += 1,
             text => drawn += usize::from(!text.starts_with("refused")),
         }
@@ -107,7 +107,7 @@ fn listings_and_refusals() {
     assert!(drawn > 45 && open > 4, "{drawn} drawn, {open} refused by 12");
     let examples = document::checked().into_iter().filter(|example| example.refusal == 12);
     for example in examples {
-        assert_eq!(assert_printed(&program, &example.survey, example.name), "refused 12\n");
+        assert_eq!(assert_printed(&program, &example.survey, &example.name), "refused 12\n");
     }
     for seed in 0..3 {
         assert_printed(&program, &generate::long_loop(seed), &format!("long loop, seed {seed}"));

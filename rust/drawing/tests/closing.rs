@@ -1,4 +1,5 @@
 //! Random surveys are drawn and counted: demand 3, and demand 2 against a second drawing. Every edge is asked about, and steps follow from answers.
+//! Each failure names the generator and the seed that make the survey again.
 
 mod answers;
 mod plain_drawing;
@@ -7,6 +8,7 @@ use answers::{ask, plain_answer};
 use drawing::{draw_to_vec, Drawing, Edge, End};
 use plain_drawing::{Face, PlainDrawing};
 use surveys::closing::{self, Breach};
+use surveys::generate::named;
 use surveys::lent::bits;
 use surveys::plain::{self, Plain};
 use surveys::refusals::{self, OPEN_AT_BOX};
@@ -14,34 +16,34 @@ use surveys::tally::Tally;
 use surveys::{document, generate, Survey};
 
 /// The drawing of a survey; none if it is refused by 12, which must be as the plain checks say.
-fn drawing(survey: &Survey) -> Option<Drawing> {
+fn drawing(survey: &Survey, what: &str) -> Option<Drawing> {
     let drawn = draw_to_vec(&survey.cells, &survey.corners, survey.clearance);
     match refusals::of_drawing(survey) {
-        0 => Some(drawn.expect("no check refuses it")),
+        0 => Some(drawn.unwrap_or_else(|number| panic!("{what}: refusal {number}, and no check refuses it"))),
         refusal => {
-            assert_eq!((drawn, refusal), (Err(OPEN_AT_BOX), OPEN_AT_BOX));
+            assert_eq!((drawn, refusal), (Err(OPEN_AT_BOX), OPEN_AT_BOX), "{what}");
             None
         }
     }
 }
 
-/// Hands every survey that is drawn on with its drawing and its number in the row, and says how many those were.
+/// Hands every survey that is drawn on with its drawing and its name, and says how many those were.
 fn for_drawn(
-    surveys: impl Iterator<Item = Survey>,
-    what: &str,
-    mut visit: impl FnMut(&Survey, &Drawing, usize),
+    surveys: impl Iterator<Item = (String, Survey)>,
+    comparison: &str,
+    mut visit: impl FnMut(&Survey, &Drawing, &str),
 ) {
     let mut tally = Tally::default();
-    for (number, survey) in surveys.enumerate() {
-        match drawing(&survey) {
+    for (what, survey) in surveys {
+        match drawing(&survey, &what) {
             Some(drawing) => {
                 tally.add_drawn(drawing.points.len() / 3);
-                visit(&survey, &drawing, number);
+                visit(&survey, &drawing, &what);
             }
             None => tally.add_open(),
         }
     }
-    tally.assert_most_drawn(what);
+    tally.assert_most_drawn(comparison);
 }
 
 fn assert_closes(survey: &Survey, Drawing { points, triangles }: &Drawing, what: &str) {
@@ -50,9 +52,7 @@ fn assert_closes(survey: &Survey, Drawing { points, triangles }: &Drawing, what:
 
 #[test]
 fn random_surveys_close() {
-    for_drawn((0..5_000).map(generate::mixed), "closing", |survey, drawing, seed| {
-        assert_closes(survey, drawing, &format!("seed {seed}"));
-    });
+    for_drawn(named("mixed", 0..5_000, generate::mixed), "closing", assert_closes);
 }
 
 /// The number of points of the longest fan.
@@ -64,27 +64,26 @@ fn longest_loop(triangles: &[u32]) -> usize {
 
 #[test]
 fn loops_of_many_hundred_points_close() {
-    for seed in 0..20 {
-        let survey = generate::long_loop(seed);
-        let drawing = drawing(&survey).expect("a dry outside");
+    for (what, survey) in named("long loop", 0..20, generate::long_loop) {
+        let drawing = drawing(&survey, &what).expect(&what);
         let points = longest_loop(&drawing.triangles);
-        assert!(points > 800, "seed {seed}: {points} points");
-        assert_closes(&survey, &drawing, &format!("long loop, seed {seed}"));
+        assert!(points > 800, "{what}: {points} points");
+        assert_closes(&survey, &drawing, &what);
     }
 }
 
 #[test]
 fn random_surveys_are_drawn_as_the_plain_drawing_draws_them() {
-    let small = (0..5_000).map(|seed| generate::small_mixed(seed, 8));
-    let large = (0..100).map(generate::mixed);
-    let long = (0..2).map(generate::long_loop);
+    let small = named("small mixed", 0..5_000, |seed| generate::small_mixed(seed, 8));
+    let large = named("mixed", 0..100, generate::mixed);
+    let long = named("long loop", 0..2, generate::long_loop);
     let mut shown = Shown::default();
     let surveys = small.chain(large).chain(long);
-    for_drawn(surveys, "against the plain drawing", |survey, drawing, number| {
+    for_drawn(surveys, "against the plain drawing", |survey, drawing, what| {
         let plain = Plain::read(survey);
         let expected = plain_drawing::draw(&plain);
-        assert_eq!(bits(&drawing.points), bits(&expected.points), "survey {number}: points");
-        assert_eq!(drawing.triangles, expected.triangles, "survey {number}: triangles");
+        assert_eq!(bits(&drawing.points), bits(&expected.points), "{what}: points");
+        assert_eq!(drawing.triangles, expected.triangles, "{what}: triangles");
         shown.look(&plain, &expected.loops);
     });
     shown.assert_much();
@@ -122,16 +121,16 @@ impl Shown {
 
 #[test]
 fn every_enquiry_is_answered_as_the_plain_edges_say() {
-    let any_outside = (0..60).map(|seed| generate::small_survey(seed, 3));
-    let dry_outside = (0..20).map(|seed| generate::small_interior(seed, 3));
+    let any_outside = named("small survey", 0..60, |seed| generate::small_survey(seed, 3));
+    let dry_outside = named("small interior", 0..20, |seed| generate::small_interior(seed, 3));
     let mut open = 0;
-    for (number, survey) in any_outside.chain(dry_outside).enumerate() {
-        open += usize::from(drawing(&survey).is_none());
+    for (what, survey) in any_outside.chain(dry_outside) {
+        open += usize::from(drawing(&survey, &what).is_none());
         let plain = Plain::read(&survey);
         for (place, _) in plain::corners(&survey.corners) {
             for (axis, shift) in (0..3).flat_map(|axis| (0..=10).map(move |shift| (axis, shift))) {
                 let edge = plain::Edge::new(axis, place, 1 << shift);
-                assert_eq!(ask(&survey, edge), plain_answer(&plain, edge), "survey {number}, {edge:?}");
+                assert_eq!(ask(&survey, edge), plain_answer(&plain, edge), "{what}: {edge:?}");
             }
         }
     }
@@ -162,13 +161,12 @@ fn step_by_answers(face: &Face, answer: impl Fn(plain::Edge) -> Edge) -> (usize,
 fn the_step_in_a_face_with_two_odd_edges_follows_from_four_answers() {
     let mut met = [[0usize; 2]; 3];
     let mut divided = 0;
-    for seed in 0..60 {
-        let survey = generate::small_survey(seed, 3);
+    for (what, survey) in named("small survey", 0..60, |seed| generate::small_survey(seed, 3)) {
         let plain = Plain::read(&survey);
         let answer =
             |edge: plain::Edge| ask(&survey, edge).expect("an edge of a small face is an edge of a cell");
         for (face, step) in plain_drawing::single_steps(&plain) {
-            assert_eq!(step_by_answers(&face, answer), step, "seed {seed}");
+            assert_eq!(step_by_answers(&face, answer), step, "{what}");
             met[face.axis][usize::from(face.outward > 0)] += 1;
             let odd_and_divided = |&edge: &plain::Edge| plain.is_odd(edge) && plain.is_divided(edge);
             divided += usize::from(face.edges_round().iter().any(odd_and_divided));
@@ -181,7 +179,7 @@ fn the_step_in_a_face_with_two_odd_edges_follows_from_four_answers() {
 /// What the closing check says of the twin survey's drawing after a change to it.
 fn breach(change: impl FnOnce(&mut Drawing)) -> Result<(), Breach> {
     let survey = document::twin();
-    let mut changed = drawing(&survey).expect("document 01 draws it");
+    let mut changed = drawing(&survey, "the twin survey").expect("document 01 draws it");
     change(&mut changed);
     closing::check(&survey, &changed.points, &changed.triangles)
 }

@@ -15,7 +15,7 @@ fn ask(survey: &Survey, axis: u32, [x, y, z]: [u32; 3], length: u32) -> Result<E
 #[test]
 fn drawings_are_exactly_those_of_the_document() {
     for document::Drawn { name, survey, points, triangles } in document::drawn() {
-        let drawing = draw_to_vec(&survey.cells, &survey.corners, survey.clearance).expect(name);
+        let drawing = draw_to_vec(&survey.cells, &survey.corners, survey.clearance).expect(&name);
         assert_eq!(bits(&drawing.points), bits(&points.concat()), "{name}: points {:?}", drawing.points);
         assert_eq!(drawing.triangles, triangles.concat(), "{name}: triangles");
         assert_eq!(closing::check(&survey, &drawing.points, &drawing.triangles), Ok(()), "{name}");

@@ -26,7 +26,7 @@ fn drawn(survey: &Survey, point_room: usize, triangle_room: usize, what: &str) -
 fn assert_refused(survey: &Survey, refusal: u32, what: &str) {
     let Survey { cells, corners, clearance } = survey;
     assert_eq!(drawn(survey, 64, 64, what), Drawn { number: refusal, points: 0, triangles: 0 }, "{what}");
-    assert_eq!(check(cells, corners), if refusal == 8 { 0 } else { refusal }, "{what}: by itself");
+    assert_eq!(check(cells, corners), refusals::by_itself(refusal), "{what}: by itself");
     let enquiry = enquire(cells, corners, *clearance, 0, 0, 0, 0, 1024);
     assert_eq!(enquiry, Err(refusal), "{what}: enquiry");
 }
@@ -55,10 +55,10 @@ fn assert_open(survey: &Survey, what: &str) -> usize {
 fn a_wet_corner_on_an_outer_face_is_refused_for_drawing_alone() {
     let examples = document::checked().into_iter().filter(|example| example.refusal == OPEN_AT_BOX);
     for example in examples {
-        assert_open(&example.survey, example.name);
+        assert_open(&example.survey, &example.name);
     }
-    let open = |seed| assert_open(&generate::one_wet_outside(seed), &format!("seed {seed}"));
-    let crossings: usize = (0..300).map(open).sum();
+    let one_wet = generate::named("one wet outside", 0..300, generate::one_wet_outside);
+    let crossings: usize = one_wet.map(|(what, survey)| assert_open(&survey, &what)).sum();
     assert!(crossings > 1_000, "{crossings} crossing edges");
 }
 
@@ -79,7 +79,7 @@ fn each_refusal_is_given_where_it_applies() {
     for refusal in 1..=8 {
         for seed in 0..200 {
             let damaged = damage::damaged_for(refusal, seed);
-            assert_eq!(damaged.refusal, refusal);
+            assert_eq!(damaged.refusal, refusal, "seed {seed}");
             assert_refused(&damaged.survey, refusal, &format!("refusal {refusal}, seed {seed}"));
         }
     }

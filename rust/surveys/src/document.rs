@@ -7,7 +7,7 @@ use crate::expected::{
     centre_points, centre_triangles, far_points, line_points, line_triangles, open_points, open_triangles,
     opposite_points, opposite_triangles, points_close_to, quarter_points, twin_points, twin_triangles,
 };
-use crate::refusals::OPEN_AT_BOX;
+use crate::refusals::{self, OPEN_AT_BOX};
 use crate::survey::{cell_table, too_deep_table, Cube, Octree, BOX_SIZE};
 use crate::Survey;
 
@@ -16,8 +16,8 @@ pub const ZEROS: [(f32, f32); 4] = [(0.0, 0.0), (-0.0, 0.0), (0.0, -0.0), (-0.0,
 
 /// A survey with the whole of its drawing.
 pub struct Drawn {
-    /// What the survey shows.
-    pub name: &'static str,
+    /// What the survey shows. No other has this name.
+    pub name: String,
     /// The survey.
     pub survey: Survey,
     /// x, y and z of each point.
@@ -27,15 +27,15 @@ pub struct Drawn {
 }
 
 impl Drawn {
-    fn new(name: &'static str, survey: Survey, points: Vec<[f32; 3]>, triangles: Vec<[u32; 3]>) -> Drawn {
-        Drawn { name, survey, points, triangles }
+    fn new(name: &str, survey: Survey, points: Vec<[f32; 3]>, triangles: Vec<[u32; 3]>) -> Drawn {
+        Drawn { name: name.to_string(), survey, points, triangles }
     }
 }
 
 /// A survey that a check of 1 to 8 or 12 decides.
 pub struct Checked {
-    /// What the survey shows.
-    pub name: &'static str,
+    /// What the survey shows. No other has this name.
+    pub name: String,
     /// The survey.
     pub survey: Survey,
     /// The refusal for drawing, or 0.
@@ -43,8 +43,8 @@ pub struct Checked {
 }
 
 impl Checked {
-    fn new(name: &'static str, survey: Survey, refusal: u32) -> Checked {
-        Checked { name, survey, refusal }
+    fn new(name: &str, survey: Survey, refusal: u32) -> Checked {
+        Checked { name: name.to_string(), survey, refusal }
     }
 
     /// The refusal for an enquiry about an edge of some cell, or 0: 12 is for drawing alone.
@@ -57,10 +57,7 @@ impl Checked {
 
     /// The refusal of the survey by itself, or 0: the clearance is not looked at.
     pub fn by_itself(&self) -> u32 {
-        match self.for_enquiry() {
-            8 => 0,
-            refusal => refusal,
-        }
+        refusals::by_itself(self.refusal)
     }
 }
 
@@ -204,8 +201,9 @@ pub fn drawn() -> Vec<Drawn> {
         drawn("two on a line, uneven", two_on_a_line(2.0), line_points(2.0), line_triangles()),
     ];
     for (at_upper_end, middle) in [(false, 1.0), (true, 1_023.0)] {
+        let name = format!("wet next to the outside, at {middle} on each axis");
         let survey = wet_next_to_outside(at_upper_end);
-        list.push(drawn("wet next to the outside", survey, points_close_to(middle), centre_triangles()));
+        list.push(drawn(&name, survey, points_close_to(middle), centre_triangles()));
     }
     list.extend(drawn_at_clearance());
     list
@@ -215,8 +213,9 @@ pub fn drawn() -> Vec<Drawn> {
 fn drawn_at_clearance() -> Vec<Drawn> {
     let drawn = Drawn::new;
     let around = |wet, sounding, clearance| {
+        let name = format!("{sounding:?} around {wet:?} at the centre, clearance {clearance:?}");
         let survey = awash_around(wet, sounding, clearance);
-        drawn("awash around the centre", survey, centre_points(512.0), centre_triangles())
+        drawn(&name, survey, centre_points(512.0), centre_triangles())
     };
     // Its difference to the dry soundings is rounded to 1, and so t is 1.
     let barely_wet = centre_sounded(0.0f32.next_up());
@@ -229,13 +228,15 @@ fn drawn_at_clearance() -> Vec<Drawn> {
         drawn("the least clearance", level(-1_048_576.0).at(-1_048_576.0), vec![], vec![]),
     ];
     for (sounding, clearance) in ZEROS {
-        list.push(drawn("awash", awash(sounding, clearance), vec![], vec![]));
+        let name = format!("sounding {sounding:?}, clearance {clearance:?}");
+        list.push(drawn(&name, awash(sounding, clearance), vec![], vec![]));
         list.push(around(1.0, sounding, clearance));
     }
     for (number, face_centre) in FACE_CENTRES.into_iter().enumerate() {
         let mut points = centre_points(256.0);
         points[number] = face_centre.map(f32::from);
-        list.push(drawn("awash on one side of the box", awash_at(face_centre), points, centre_triangles()));
+        let name = format!("awash on one side of the box, at {face_centre:?}");
+        list.push(drawn(&name, awash_at(face_centre), points, centre_triangles()));
     }
     list
 }
@@ -253,15 +254,16 @@ pub fn checked() -> Vec<Checked> {
     ];
     let numbers = [1_048_576.0, 1_048_576.125, f32::NAN, f32::INFINITY];
     for (number, lawful) in numbers.into_iter().zip([true, false, false, false]) {
-        for signed in [number, -number] {
+        for (sign, signed) in [("", number), ("-", -number)] {
             // Where the number is lawful, the corner at (0,0,0) may be wet.
             let refusal = |check: u32, wet: bool| match (lawful, wet) {
                 (false, _) => check,
                 (true, true) => OPEN_AT_BOX,
                 (true, false) => 0,
             };
-            list.push(checked("a sounding", sounded(signed), refusal(7, signed > 0.0)));
-            list.push(checked("a clearance", one_corner_wet().at(signed), refusal(8, signed < 0.0)));
+            let name = |what: &str| format!("{what} {sign}{number:?}");
+            list.push(checked(&name("sounding"), sounded(signed), refusal(7, signed > 0.0)));
+            list.push(checked(&name("clearance"), one_corner_wet().at(signed), refusal(8, signed < 0.0)));
         }
     }
     list.extend(open_at_box());
@@ -270,7 +272,7 @@ pub fn checked() -> Vec<Checked> {
 
 /// The surveys with a wet corner on an outer face: document 02, request 3.
 fn open_at_box() -> Vec<Checked> {
-    let open = |name, survey| Checked::new(name, survey, OPEN_AT_BOX);
+    let open = |name: &str, survey| Checked::new(name, survey, OPEN_AT_BOX);
     let mut list = vec![
         open("the first corner wet", one_corner_wet()),
         open("the last corner wet", wet_at(&[], &[[BOX_SIZE; 3]], 1.0)),
@@ -278,9 +280,30 @@ fn open_at_box() -> Vec<Checked> {
         open("wet on an edge of the box", quarter_place_at_box()),
     ];
     for face_centre in FACE_CENTRES {
-        list.push(open("wet on one side of the box", wet_at(&[0], &[face_centre], 1.0)));
-        let barely = wet_at(&[0], &[face_centre], 0.0f32.next_up());
-        list.push(open("barely wet on one side of the box", barely));
+        for (name, sounding) in [("wet", 1.0), ("barely wet", 0.0f32.next_up())] {
+            let name = format!("{name} on one side of the box, at {face_centre:?}");
+            list.push(open(&name, wet_at(&[0], &[face_centre], sounding)));
+        }
     }
     list
+}
+
+#[cfg(test)]
+mod tests {
+    use std::collections::BTreeSet;
+
+    use super::*;
+
+    fn assert_each_once(names: impl Iterator<Item = String>) {
+        let mut met = BTreeSet::new();
+        for name in names {
+            assert!(met.insert(name.clone()), "{name}");
+        }
+    }
+
+    #[test]
+    fn each_survey_has_a_name_of_its_own() {
+        assert_each_once(drawn().into_iter().map(|example| example.name));
+        assert_each_once(checked().into_iter().map(|example| example.name));
+    }
 }

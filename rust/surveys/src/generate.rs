@@ -1,9 +1,10 @@
-//! Random lawful surveys. A survey follows from its seed alone.
+//! Random lawful surveys. A survey follows from its seed alone, and for the small ones from the most splits too.
 //!
 //! With any outside nearly all are refused for drawing, since some corner on an outer face is wet; with a dry outside
 //! none is. [`mixed`] and [`small_mixed`] have both, for comparing drawings.
 
 use std::iter::repeat_with;
+use std::ops::Range;
 
 pub use crate::long_loop::long_loop;
 use crate::random::Random;
@@ -49,9 +50,19 @@ pub fn small_interior(seed: u64, most_splits: usize) -> Survey {
 /// A random survey with exactly one wet corner on the box's outer faces. It lies on one of the six alone, so that only
 /// a look at this face finds it.
 pub fn one_wet_outside(seed: u64) -> Survey {
+    one_wet(seed, any_size)
+}
+
+/// As [`one_wet_outside`], with at most so many splits. It needs one, for a corner on one face alone.
+pub fn small_one_wet_outside(seed: u64, most_splits: usize) -> Survey {
+    assert!(most_splits > 0, "a corner on one face alone needs a split");
+    one_wet(seed, |random| octree(random, most_splits))
+}
+
+fn one_wet(seed: u64, octree: impl Fn(&mut Random) -> Octree) -> Survey {
     let random = &mut Random::new(seed);
     let is_split = |octree: &Octree| octree.split[0];
-    let octree = repeat_with(|| any_size(random)).find(is_split).expect("most are split");
+    let octree = repeat_with(|| octree(random)).find(is_split).expect("most are split");
     let (axis, side) = (random.below(3), random.pick(&[0, BOX_SIZE]));
     let on_this_face_alone = |place: &[u16; 3]| {
         let mut inside = *place;
@@ -73,13 +84,22 @@ pub fn mixed(seed: u64) -> Survey {
     }
 }
 
-/// As [`mixed`], but all save those with a single wet corner outside have at most so many splits.
+/// As [`mixed`], with at most so many splits, of which one is needed.
 pub fn small_mixed(seed: u64, most_splits: usize) -> Survey {
     match seed % 16 {
         0 => small_survey(seed, most_splits),
-        1 => one_wet_outside(seed),
+        1 => small_one_wet_outside(seed, most_splits),
         _ => small_interior(seed, most_splits),
     }
+}
+
+/// The surveys of these seeds, each with the name of its generator and its seed, for a failure to tell.
+pub fn named(
+    generator: &'static str,
+    seeds: Range<u64>,
+    made: impl Fn(u64) -> Survey,
+) -> impl Iterator<Item = (String, Survey)> {
+    seeds.map(move |seed| (format!("{generator}, seed {seed}"), made(seed)))
 }
 
 fn made(seed: u64, octree: impl FnOnce(&mut Random) -> Octree, outside: Outside) -> Survey {
@@ -119,15 +139,22 @@ mod tests {
     /// A small survey with a dry outside.
     const SMALL_INTERIOR: Maker = |seed| small_interior(seed, 8);
 
+    /// A small survey with a single wet corner outside.
+    const SMALL_ONE_WET: Maker = |seed| small_one_wet_outside(seed, 8);
+
+    /// A small one of the three mixed.
+    const SMALL_MIXED: Maker = |seed| small_mixed(seed, 8);
+
     /// Every generator but that of long loops.
-    const MAKERS: [Maker; 7] = [
+    const MAKERS: [Maker; 8] = [
         survey,
         |seed| small_survey(seed, 8),
         interior,
         SMALL_INTERIOR,
         one_wet_outside,
+        SMALL_ONE_WET,
         mixed,
-        |seed| small_mixed(seed, 8),
+        SMALL_MIXED,
     ];
 
     #[test]
@@ -160,9 +187,15 @@ mod tests {
 
     #[test]
     fn one_wet_corner_outside_is_on_one_of_six_faces() {
+        assert_on_one_of_six_faces(one_wet_outside);
+        assert_on_one_of_six_faces(SMALL_ONE_WET);
+        assert_on_one_of_six_faces(|seed| small_one_wet_outside(seed, 1));
+    }
+
+    fn assert_on_one_of_six_faces(made: Maker) {
         let mut faces = [[0; 2]; 3];
         for seed in 0..600 {
-            let survey = one_wet_outside(seed);
+            let survey = made(seed);
             let [wet] = wet_outside(&survey)[..] else { panic!("seed {seed}: {:?}", wet_outside(&survey)) };
             let outer: Vec<usize> = (0..3).filter(|&axis| [0, 1_024].contains(&wet[axis])).collect();
             let [axis] = outer[..] else { panic!("seed {seed}: {wet:?}") };
@@ -174,7 +207,7 @@ mod tests {
 
     #[test]
     fn most_of_the_mixed_surveys_are_drawn() {
-        for made in [mixed, |seed| small_mixed(seed, 8)] {
+        for made in [mixed, SMALL_MIXED] {
             let refusals: Vec<u32> = (0..1_600).map(|seed| of_drawing(&made(seed))).collect();
             let count = |number| refusals.iter().filter(|&&refusal| refusal == number).count();
             assert!(count(0) >= 1_400 && count(OPEN_AT_BOX) > 180, "{} drawn", count(0));
@@ -182,6 +215,25 @@ mod tests {
         let with_any_outside = (0..1_600).step_by(16).map(mixed);
         let open = with_any_outside.filter(|survey| of_drawing(survey) == OPEN_AT_BOX).count();
         assert!((80..100).contains(&open), "with any outside {open} of 100 are refused");
+    }
+
+    #[test]
+    fn small_surveys_have_few_splits() {
+        for most_splits in [1, 2, 8] {
+            let small = [small_survey, small_interior, small_one_wet_outside, small_mixed];
+            for seed in 0..400 {
+                let splits = small.map(|made| made(seed, most_splits).cells.len() / 4 / 8);
+                assert!(splits.iter().all(|&splits| splits <= most_splits), "seed {seed}: {splits:?}");
+                assert!(splits[2] > 0, "seed {seed}: the one with a wet corner on one face alone");
+            }
+        }
+    }
+
+    #[test]
+    fn a_named_survey_tells_its_generator_and_seed() {
+        let surveys = named("mixed", 3..5, mixed).map(|(name, survey)| (name, survey.corners));
+        let expected = [("mixed, seed 3", 3), ("mixed, seed 4", 4)];
+        assert!(surveys.eq(expected.map(|(name, seed)| (name.to_string(), mixed(seed).corners))));
     }
 
     /// Counts the surveys of 400 seeds that show something.

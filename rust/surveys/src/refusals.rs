@@ -31,6 +31,15 @@ pub fn first(survey: &Survey) -> u32 {
     (1..=8).find(|&number| refuses[number - 1](survey)).map_or(0, |number| number as u32)
 }
 
+/// What is left of the first refusal of a drawing for the survey by itself: 1 to 7, else 0, since checks 8 and 12 look at
+/// the clearance.
+pub fn by_itself(refusal: u32) -> u32 {
+    match refusal {
+        1..=7 => refusal,
+        _ => 0,
+    }
+}
+
 fn breaks_entry_rule(entries: &[usize]) -> bool {
     let splits_before = |record: usize| entries[..record].iter().filter(|&&entry| entry != 0).count();
     let breaks = |record: usize| {

@@ -23,7 +23,7 @@ pub enum Kind {
     /// The leaves nearest to one corner of the box are split, down to depth 10; soundings are noise.
     Corner,
     /// The leaves that stand on a plane are split, the largest first, so that fine cells lie on coarse ones;
-    /// the surface is rough and near the plane.
+    /// the surface is rough and near the plane, and closes near the box's sides and bottom, which are dry.
     Plane,
     /// The leaves that a ball's surface goes through are split, the largest first; soundings are the
     /// distance from that surface.

@@ -100,7 +100,8 @@ const COMMANDS: [Command; 8] = [
         arguments: "DIR",
         summary: "count cells, corners, points and triangles; give the volume",
         help: "Prints the cell records, the greatest depth, the leaves, corners, points and triangles, and the volume inside\n\
-               the surface; the whole box has 1073741824. A missing file is an error.",
+               the surface; the whole box has 1073741824. A pool that runs out of the surveyed box is refused whole, by 12:\n\
+               nothing of it is counted. A missing file is an error.",
         takes: directory_alone,
         run: info,
     },

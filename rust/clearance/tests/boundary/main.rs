@@ -7,6 +7,7 @@ mod guarded;
 mod number;
 mod stack;
 
+use std::collections::BTreeSet;
 use std::ops::{Deref, DerefMut};
 use std::os::unix::process::ExitStatusExt;
 use std::process::{Command, ExitStatus};
@@ -120,57 +121,73 @@ impl Lent<'_> {
     }
 }
 
-/// What was seen of many surveys.
-#[derive(Default)]
+/// What was seen of a survey.
 struct Seen {
-    tally: Tally,
+    /// The first refusal of drawing that the slices have no part in, or 0.
+    refusal: u32,
+    /// How many crossing points there are, drawn or not.
+    points: usize,
     /// Enquiries that met a crossing edge.
     crossings: usize,
 }
 
-impl Seen {
-    /// Makes all calls with slices that a lender lends.
-    fn look(&mut self, survey: &Survey, lender: Lender, what: &str) {
-        let Survey { cells, corners, clearance } = survey;
-        let (cells, corners) = (lender.table(cells), lender.table(corners));
-        let lent = Lent { lender, cells, corners, clearance: *clearance, what };
-        let refusal = refusals::first(survey);
-        let by_itself = if refusal == 8 { 0 } else { refusal };
-        assert_eq!(number(clearance::check(&lent.cells, &lent.corners)), by_itself, "{what}: check");
-        match refusals::of_drawing(survey) {
-            0 => {
-                let points = lent.assert_drawn();
-                self.tally.add_drawn(points.len() / 3);
-                self.crossings += lent.assert_answered(&points);
-            }
-            OPEN_AT_BOX => {
-                lent.assert_open();
-                self.tally.add_open();
-                let plain = Plain::read(survey);
-                let points: Vec<f32> = plain.carriers.iter().flat_map(|&edge| plain.place(edge)).collect();
-                self.crossings += lent.assert_answered(&points);
-            }
-            refusal => lent.assert_refused(refusal),
+/// Makes all calls with slices that a lender lends.
+fn look(survey: &Survey, lender: Lender, what: &str) -> Seen {
+    let Survey { cells, corners, clearance } = survey;
+    let (cells, corners) = (lender.table(cells), lender.table(corners));
+    let what = &format!("{lender:?}, {what}");
+    let lent = Lent { lender, cells, corners, clearance: *clearance, what };
+    let refusal = refusals::of_drawing(survey);
+    let check = number(clearance::check(&lent.cells, &lent.corners));
+    assert_eq!(check, refusals::by_itself(refusal), "{what}: check");
+    let points = match refusal {
+        0 => lent.assert_drawn(),
+        OPEN_AT_BOX => {
+            lent.assert_open();
+            let plain = Plain::read(survey);
+            plain.carriers.iter().flat_map(|&edge| plain.place(edge)).collect()
         }
+        _ => {
+            lent.assert_refused(refusal);
+            return Seen { refusal, points: 0, crossings: 0 };
+        }
+    };
+    Seen { refusal, points: points.len() / 3, crossings: lent.assert_answered(&points) }
+}
+
+/// Lawful surveys: by far most are drawn, and the enquiry meets crossing edges.
+fn assert_lawful_within(lender: Lender, surveys: u64) {
+    let mut tally = Tally::default();
+    let mut crossings = 0;
+    for (what, survey) in generate::named("mixed", 0..surveys, generate::mixed) {
+        let seen = look(&survey, lender, &what);
+        match seen.refusal {
+            0 => tally.add_drawn(seen.points),
+            OPEN_AT_BOX => tally.add_open(),
+            refusal => panic!("{what}: refusal {refusal}"),
+        }
+        crossings += seen.crossings;
     }
+    tally.assert_most_drawn(&format!("{lender:?}"));
+    assert!(crossings as u64 >= surveys / 10, "{crossings} crossing edges");
+}
+
+/// Examples and damaged surveys: they meet every refusal that the slices have no part in.
+fn assert_others_within(lender: Lender, surveys: u64) {
+    let examples = document::checked().into_iter().map(|example| (example.name, example.survey));
+    let long_loop = generate::named("long loop", 0..1, generate::long_loop);
+    let damaged = generate::named("damaged", 0..surveys, |seed| damage::damaged(seed).survey);
+    let corrupted = generate::named("corrupted", 0..surveys, damage::corrupted);
+    let others = examples.chain(long_loop).chain(damaged).chain(corrupted);
+    let met: BTreeSet<u32> = others.map(|(what, survey)| look(&survey, lender, &what).refusal).collect();
+    let due = BTreeSet::from([0, 1, 2, 3, 4, 5, 6, 7, 8, OPEN_AT_BOX]);
+    assert!(surveys < 100 || met == due, "refusals met: {met:?}");
 }
 
 fn assert_all_within(lender: Lender) {
-    let mut others = Seen::default();
-    for example in document::checked() {
-        others.look(&example.survey, lender, example.name);
-    }
-    others.look(&generate::long_loop(0), lender, "long loop");
     let surveys = std::env::var("CLEARANCE_BOUNDARY").map_or(200, |text| text.parse().expect("a number"));
-    let mut lawful = Seen::default();
-    for seed in 0..surveys {
-        let what = |kind| format!("{lender:?}, {kind}, seed {seed}");
-        lawful.look(&generate::mixed(seed), lender, &what("survey"));
-        others.look(&damage::damaged(seed).survey, lender, &what("damaged"));
-        others.look(&damage::corrupted(seed), lender, &what("corrupted"));
-    }
-    lawful.tally.assert_most_drawn(&format!("{lender:?}"));
-    assert!(lawful.crossings as u64 >= surveys / 10, "{} crossing edges", lawful.crossings);
+    assert_lawful_within(lender, surveys);
+    assert_others_within(lender, surveys);
 }
 
 #[test]
