@@ -1,5 +1,5 @@
--- Document 01, "What closing says", with demand 3 of the request as the record `Closed`, without the exception that the request made: so wants it document 02,
--- request 3.
+-- Document 01, "What closing says", with demand 3 of the request as the record `Closed`. The exception that the request made is gone from it, as document 02,
+-- request 3, wants; the form with the exception is the last definition here.
 use Prim.Native.Nat.{ℕ, zero, suc, _+_, _*_, _<_, _≤_}
 use mathlib.Core.Path.{_≡_}
 use mathlib.Core.Bool.{Bool, not, _&&_, _||_}
