@@ -7,3 +7,4 @@ pub mod Inside
 pub mod Outside
 pub mod Closing
 pub mod Wrong
+pub mod Weights

@@ -13,7 +13,7 @@ use Rattle.base.proofs.Tests.{eq→eqb, true→, →false}
 use Rattle.rules.specs.Survey.{cornersOf}
 use Rattle.rules.specs.Edges.{CellEdge, pointEdges, spotOn, OnEdge}
 use Rattle.rules.specs.Steps.{allTriangles}
-use Rattle.rules.specs.Outputs.{numbers, firstOf, surveyChecks, checks, drawingChecks, drawable, surveyOf, pointFloats, triangleNumbers, written, Drawing, draw}
+use Rattle.rules.specs.Outputs.{numbers, firstOf, surveyChecks, checks, drawingChecks, drawable, surveyOf, pointFloats, triangleNumbers, written, Drawing, sliceChecks, draw}
 use Rattle.rules.specs.Closing.{Carries, Closed, ClosedIn}
 use Rattle.octree.proofs.Accepted.{first-append, first-none}
 use Rattle.places.proofs.Stored.{point-floats, placed}
@@ -47,16 +47,10 @@ module _ (tc tk : List ℕ) (clearance : Float) (ps : List Float) (ts : List ℕ
         triangles = cond (eqb number 0) newTriangles ts;
       }
 
-  -- the checks of the slices
-  abbrev pub sliceChecks : List (ℕ × Bool)
-  sliceChecks =
-      let s = surveyOf tc tk clearance in
-      (9, ltb (length ps) (3 * length (pointEdges s))) ∷ (10, ltb (length ts) (3 * length (allTriangles s))) ∷ []
-
   -- drawing: refused by the checks before the slices', else by the slices'
-  pub draw-is : draw tc tk clearance ps ts ≡ given (cond (drawable tc tk clearance) (firstOf sliceChecks) (firstOf (drawingChecks tc tk clearance)))
+  pub draw-is : draw tc tk clearance ps ts ≡ given (cond (drawable tc tk clearance) (firstOf (sliceChecks tc tk clearance ps ts)) (firstOf (drawingChecks tc tk clearance)))
   unfolding draw given drawable
-  draw-is = ap given (first-append (drawingChecks tc tk clearance) sliceChecks (unfold drawingChecks checks surveyChecks in tt))
+  draw-is = ap given (first-append (drawingChecks tc tk clearance) (sliceChecks tc tk clearance ps ts) (unfold drawingChecks checks surveyChecks in tt))
 
   -- the number is 0 only where the survey is drawable and both slices are long enough
   pub drawn-fits : draw tc tk clearance ps ts .result .number ≡ 0 → let s = surveyOf tc tk clearance in
@@ -64,7 +58,7 @@ module _ (tc tk : List ℕ) (clearance : Float) (ps : List Float) (ts : List ℕ
   unfolding draw drawable
   drawn-fits zero =
       let s = surveyOf tc tk clearance in
-      let none = first-none (drawingChecks tc tk clearance) sliceChecks (unfold drawingChecks checks surveyChecks in tt) zero in
+      let none = first-none (drawingChecks tc tk clearance) (sliceChecks tc tk clearance ps ts) (unfold drawingChecks checks surveyChecks in tt) zero in
       let f = both-fit (length ps) (length ts) (3 * length (pointEdges s)) (3 * length (allTriangles s)) (none .1) in
       (eq→eqb (firstOf (drawingChecks tc tk clearance)) 0 (none .0), f .0, f .1)
 
@@ -82,7 +76,7 @@ module _ (tc tk : List ℕ) (clearance : Float) (ps : List Float) (ts : List ℕ
   pub drawn-is : draw tc tk clearance ps ts .result .number ≡ 0 → draw tc tk clearance ps ts ≡ whole
   unfolding given whole
   drawn-is zero =
-      let n = cond (drawable tc tk clearance) (firstOf sliceChecks) (firstOf (drawingChecks tc tk clearance)) in
+      let n = cond (drawable tc tk clearance) (firstOf (sliceChecks tc tk clearance ps ts)) (firstOf (drawingChecks tc tk clearance)) in
       let h : n ≡ 0 = ap (λ (d : Drawing). d .result .number) (sym draw-is) ∙ zero in
       draw-is ∙ ap given h ∙ rw (true→ (drawable tc tk clearance) (drawn-fits zero .0))
 

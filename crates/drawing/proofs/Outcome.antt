@@ -10,14 +10,14 @@ use lib.Ieee.{Float}
 use borrow.Author.Tests.{ne-eqb}
 use Rattle.rules.specs.Edges.{pointEdges}
 use Rattle.rules.specs.Steps.{allTriangles}
-use Rattle.rules.specs.Outputs.{firstOf, drawingChecks, drawable, surveyOf, pointFloats, triangleNumbers, written, Drawing, draw}
+use Rattle.rules.specs.Outputs.{firstOf, drawingChecks, drawable, surveyOf, pointFloats, triangleNumbers, written, Drawing, sliceChecks, draw}
 use Rattle.rules.specs.Closing.{ClosedIn}
 use Rattle.rules.specs.declared.Drawn.{Drawn}
 use Rattle.octree.proofs.Accepted.{drawable→}
 use Rattle.closing.proofs.Closing.{closes}
 use Rattle.places.proofs.OnEdge.{on-edge}
 use Rattle.drawing.specs.Draws.{lent, Draws}
-use Rattle.drawing.proofs.Drawn.{given, sliceChecks, draw-is, both-fit, drawn-fits, closed-in}
+use Rattle.drawing.proofs.Drawn.{given, draw-is, both-fit, drawn-fits, closed-in}
 
 abbrev pub returned : ℕ → ℕ → ℕ → Drawn
 returned number n m = record { number = number; points = n; triangles = m }

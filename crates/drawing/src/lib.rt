@@ -63,6 +63,23 @@ fn refusal(
     0
 }
 
+// The same without a table lent: for a call that has a check of its own before those of the slices.
+pub fn check(cells: &[u8], corners: &[u8], clearance: f32) -> u32
+    ensures { λ r. ⌜ r ≡ firstOf (drawingChecks (now (cells .entry)) (now (corners .entry)) clearance) ⌝ }
+{
+    let mut laid = [0u64; 2049];
+    let mut octants = [0u16; 16392];
+    let mut wets = [0u8; 4872];
+    refusal(
+        cells,
+        corners,
+        clearance,
+        &mut laid,
+        &mut octants,
+        &mut wets,
+    )
+}
+
 // Fills the tables of the edges and points of an accepted survey. How many points there are.
 fn fill_tables(
     cells: &[u8],

@@ -28,7 +28,7 @@ gap-top w d K g a t b = omega (arith, mul-le-mul-right (den d) t, mul-le-mul-rig
 
 -- ---- the denominators of a format's values divide 2 ^ low
 
-exponent : (k l : ℕ) → 2 ^ k ≤ 2 ^ l → k ≤ l
+pub exponent : (k l : ℕ) → 2 ^ k ≤ 2 ^ l → k ≤ l
 exponent k l h = go (leb k l) (leb→le k l) (nleb→lt k l)
   where
     go : (b : Bool) → (T b → k ≤ l) → (T (not b) → l < k) → k ≤ l
@@ -40,23 +40,25 @@ down-divides l (pos k) h = (2 ^ l, sym (mul-one (2 ^ l)))
 down-divides l (negsuc k) h =
     (2 ^ (l - suc k), ap (λ (z : ℕ). 2 ^ z) (sym (back l (suc k) (exponent (suc k) l h))) ∙ pow-add 2 (l - suc k) (suc k))
 
-down-fits : (f : Format) (s : Bool) (m : ℕ) (e : ℤ) → T (fits f (fin s m e)) → down e ≤ 2 ^ low f
+-- of a value that a format holds: its digits and its denominator
+pub fits-says : (f : Format) (s : Bool) (m : ℕ) (e : ℤ) → T (fits f (fin s m e)) → (m < 2 ^ prec f) × (down e ≤ 2 ^ low f)
 unfolding fits
-down-fits f s zero e h = le-trans (flat (up e) (down e) (eqb→eq (up e * down e) 1 h)) (pow-pos (low f))
+fits-says f s zero e h = (pow-pos (prec f), le-trans (flat (up e) (down e) (eqb→eq (up e * down e) 1 h)) (pow-pos (low f)))
   where
     flat : (u d : ℕ) → u * d ≡ 1 → d ≤ 1
     flat zero d h = omega arith
     flat (suc u) d h = omega arith
-down-fits f s (suc m) e h =
+fits-says f s (suc m) e h =
     let a : Bool = eqb (suc m % 2) 1 in
     let b : Bool = ltb (suc m) (2 ^ prec f) in
     let c : Bool = leb (down e) (2 ^ low f) in
-    leb→le (down e) (2 ^ low f) (and-r (a && b) c (and-l (a && b && c) (ltb (suc m * up e) (2 ^ suc (emax f) * down e)) h))
+    let t : T (a && b && c) = and-l (a && b && c) (ltb (suc m * up e) (2 ^ suc (emax f) * down e)) h in
+    (ltb→lt (suc m) (2 ^ prec f) (and-r a b (and-l (a && b) c t)), leb→le (down e) (2 ^ low f) (and-r (a && b) c t))
 
 den-divides : (f : Format) (x : Float) → T (fits f x) → (u : ℕ) × (2 ^ low f ≡ u * den x)
 den-divides f nan h = (2 ^ low f, sym (mul-one (2 ^ low f)))
 den-divides f (inf s) h = (2 ^ low f, sym (mul-one (2 ^ low f)))
-den-divides f (fin s m e) h = down-divides (low f) e (down-fits f s m e h)
+den-divides f (fin s m e) h = down-divides (low f) e (fits-says f s m e h .1)
 
 pub gap-unit : (f : Format) (x y : Float) (g : ℕ) → T (fits f x) → T (fits f y) → Gap x y g → 0 < g → 1 * (den x * den y) ≤ g * 2 ^ low f
 gap-unit f x y g i j h G =

@@ -2,3 +2,4 @@ pub mod Order
 pub mod Rounds
 pub mod Gaps
 pub mod Parts
+pub mod Sixteenths

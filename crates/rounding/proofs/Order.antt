@@ -134,6 +134,9 @@ module _ (x y : Float) (p : T (finite x)) (q : T (finite y)) where
   pub lt→Lt : lt x y ≡ true → Lt x y
   lt→Lt e = ltb-true _ _ (sym (lt-is x y p q) ∙ e)
 
+  pub Lt→lt : Lt x y → T (lt x y)
+  Lt→lt h = subst T (sym (lt-is x y p q)) (lt→ltb _ _ h)
+
   pub not-lt→Le : lt x y ≡ false → Le y x
   not-lt→Le e = ltb-false _ _ (sym (lt-is x y p q) ∙ e)
 

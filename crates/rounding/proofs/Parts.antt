@@ -4,16 +4,17 @@
 use Prim.Native.Nat.{ℕ, _+_, _*_, _^_, _≤_, _<_}
 use mathlib.Core.Path.{_≡_, refl, sym, ap, _∙_, subst}
 use mathlib.Core.Bool.{Bool, true, false}
-use native.Mathlib.Nat.{mul-le-mul-right, mul-pos, zero-lt-suc, lt-irrefl}
+use native.Mathlib.Nat.{mul-le-mul-right, le-of-mul-le-mul-right, mul-pos, zero-lt-suc, lt-irrefl}
 use native.Mathlib.Omega.{arith}
 use lib.Dec.{T}
 use lib.IntN.{pos}
 use lib.Pow.{pow-pos}
-use lib.Ieee.{Float, Format, prec, round, add, sub, mul, div, eq, le, ofInt, fits}
+use lib.Ieee.{Float, fin, Format, prec, round, add, sub, mul, div, eq, le, ofInt, fits}
+use lib.Ieee.Bits.{is-true}
 use lib.Ieee.Order.{round-mono}
 use lib.Ieee.Scale.{finite, round-same}
 use lib.Ieee.Positive.{num, den, positive, den-pos, own-value}
-use Rattle.rounding.proofs.Order.{hi, lo, Le, Lt, Eq, Between, Eq→eq, Le→le}
+use Rattle.rounding.proofs.Order.{hi, lo, Le, Lt, Eq, Between, le→Le, Eq→eq, Le→le, finite-between}
 use Rattle.rounding.proofs.Rounds.{Bare, round-bare, whole-bare, plain, AtMost, Whole, whole-is, Gap}
 use Rattle.rounding.proofs.Rounds.{sub-bare, sub-rounds, add-bare, mul-rounds, div-rounds, rounded-at-most, rounded-whole, rounded-between}
 use Rattle.rounding.proofs.Gaps.{gap-mono, gap-top, gap-unit, rounded-positive, num-pos}
@@ -89,6 +90,23 @@ at-most-between f k x fit p =
       Le→le x (ofInt f (pos k)) (p .0) (w .0)
           (rw (w .1, w .2, p .1) (omega (arith, mul-le-mul-right (den (ofInt f (pos k))) (p .2)))),
     )
+
+pub between-at-most : (f : Format) (k : ℕ) (x : Float) → k ≤ 2 ^ prec f → Between f 0 k x → AtMost x k 1
+between-at-most f k x fit (a, b) =
+    let z = ofInt f (pos 0) in
+    let y = ofInt f (pos k) in
+    let (fz, lz, hz) = whole-is f 0 (omega arith) in
+    let (fy, ly, hy) = whole-is f k fit in
+    let p = finite-between z x y fz fy a b in
+    let bottom : Le z x = le→Le z x fz p (is-true (le z x) a) in
+    let top : Le x y = le→Le x y p fy (is-true (le x y) b) in
+    let l : lo x ≤ hi x = le-of-mul-le-mul-right {k = den z} (omega (arith, ap (λ (n : ℕ). n * den x) hz, ap (λ (n : ℕ). n * den x) lz)) (den-pos z) in
+    let n : lo x ≡ 0 = one-sided x p l in
+    (p, n, le-of-mul-le-mul-right {k = den y} (omega (arith, ap (λ (m : ℕ). m * den x) hy, ap (λ (m : ℕ). m * den x) ly, ap (λ (m : ℕ). m * den y) n)) (den-pos y))
+  where
+    one-sided : (r : Float) → T (finite r) → lo r ≤ hi r → lo r ≡ 0
+    one-sided (fin true m e) p h = omega arith
+    one-sided (fin false m e) p h = refl
 
 pub at-most-zero : (f : Format) (x : Float) → AtMost x 0 1 → T (eq x (ofInt f (pos 0)))
 at-most-zero f x p =

@@ -8,3 +8,4 @@ pub mod Outputs
 pub mod Closing
 pub mod StepByAnswers
 pub mod AwashPlaces
+pub mod Water

@@ -132,6 +132,12 @@ pub record Drawing : Type 0 where
 abbrev pub written : {A : Type 0} → List A → List A → List A
 written new slice = new ++ drop (length new) slice
 
+-- the checks of the slices, three elements for each point and for each triangle
+abbrev pub sliceChecks : List ℕ → List ℕ → Float → List Float → List ℕ → List (ℕ × Bool)
+sliceChecks tc tk clearance ps ts =
+    let s = surveyOf tc tk clearance in
+    (9, ltb (length ps) (3 * length (pointEdges s))) ∷ (10, ltb (length ts) (3 * length (allTriangles s))) ∷ []
+
 -- drawing, of what the two slices hold before
 unfoldable pub draw : List ℕ → List ℕ → Float → List Float → List ℕ → Drawing
 unfolding drawingChecks drawable surveyOf pointEdges allTriangles pointFloats triangleNumbers
@@ -139,7 +145,7 @@ draw tc tk clearance ps ts =
     let s = surveyOf tc tk clearance in
     let n = length (pointEdges s) in
     let m = length (allTriangles s) in
-    let number = firstOf (drawingChecks tc tk clearance ++ (9, ltb (length ps) (3 * n)) ∷ (10, ltb (length ts) (3 * m)) ∷ []) in
+    let number = firstOf (drawingChecks tc tk clearance ++ sliceChecks tc tk clearance ps ts) in
     let newPoints = written (pointFloats tc tk clearance) ps in
     let newTriangles = written (triangleNumbers tc tk clearance) ts in
     record {

@@ -39,3 +39,11 @@ pub struct Drawn {
     pub points: u32,
     pub triangles: u32,
 }
+
+// What the call for the volume returns: a number (0 if drawn), both counts, and six times the volume in cubic sixteenths. Document 02, request 4.
+pub struct Water {
+    pub number: u32,
+    pub points: u32,
+    pub triangles: u32,
+    pub sixfold: i64,
+}

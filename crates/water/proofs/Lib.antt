@@ -1,0 +1,4 @@
+pub mod Signed
+pub mod Sizes
+pub mod Down
+pub mod Sums
