@@ -49,6 +49,11 @@ within-off a n h = go (decLt a n)
     go (yes b) = within-below a n 1 b
     go (no b) = within-above a n 1 (omega arith)
 
+-- where it is not 0
+pub within→ : (a u s : ℕ) → 1 ≤ within a u s → (u ≤ a) × (a < u + s)
+unfolding within less
+within→ a u s h = (omega arith, omega arith)
+
 -- an interval within another
 pub within-sub : (a u s u' s' : ℕ) → u' ≤ u → u + s ≤ u' + s' → within a u s ≤ within a u' s'
 unfolding within
@@ -74,6 +79,12 @@ within⁺-adds a u s = within-adds a (suc u) s ∙ ap (λ m. within a (suc u) s 
 abbrev pub side : Bool → ℕ → ℕ → ℕ → ℕ
 side true = within⁺
 side false = within
+
+-- both lie in the interval with its end
+pub side-sub : (e : Bool) (a u s : ℕ) → side e a u s ≤ within a u (suc s)
+unfolding within⁺
+side-sub true a u s = within-sub a (suc u) s u (suc s) (omega arith) (omega arith)
+side-sub false a u s = within-sub a u s u (suc s) (omega arith) (omega arith)
 
 pub side-adds : (e : Bool) (a : ℕ) → Additive (side e a)
 side-adds true = within⁺-adds

@@ -3,11 +3,11 @@
 use Prim.Native.Nat.{ℕ, _+_, _≤_, _<_}
 use mathlib.Core.Path.{_≡_}
 use mathlib.Core.Logic.{_⊎_, _≢_}
-use mathlib.Core.Bool.{not}
+use mathlib.Core.Bool.{Bool, not, _||_}
 use mathlib.Core.List.{List}
 use lib.Dec.{eqb, T}
 use lib.ListN.{length}
-use Rattle.base.specs.Lists.{keep, sum, bit}
+use Rattle.base.specs.Lists.{any, keep, sum, bit}
 use Rattle.rules.specs.Survey.{Cell, Survey}
 use Rattle.rules.specs.Edges.{CellEdge, pointEdges}
 use Rattle.rules.specs.Steps.{Step, leafSteps, twinOf}
@@ -28,6 +28,10 @@ leave ss p = sum (λ t. bit (eqb p (t .0))) ss
 
 unfoldable pub enter : List Step → ℕ → ℕ
 enter ss p = sum (λ t. bit (eqb p (t .1))) ss
+
+-- a step of the list starts or ends at p
+abbrev pub meeting : List Step → ℕ → Bool
+meeting ss p = any (λ t. eqb p (t .0) || eqb p (t .1)) ss
 
 -- No two steps leave one point or enter one, the points are below n, and the steps enter and leave each point equally often, or do so together
 -- with its twin, whose twin it is.

@@ -3,7 +3,7 @@ use Prim.Native.Nat.{ℕ, _+_, _≤_, _<_}
 use native.Mathlib.Omega.{arith}
 use mathlib.Core.Path.{_≡_, refl, sym, _∙_, ap}
 use mathlib.Core.Logic.{_⊎_, inl, inr, _≢_}
-use mathlib.Core.Bool.{Bool, true, false, not, _&&_}
+use mathlib.Core.Bool.{Bool, true, false, not, _&&_, _||_}
 use mathlib.Core.List.{List}
 use lib.Dec.{T, eqb}
 use lib.ListN.{length}
@@ -14,10 +14,10 @@ use Rattle.rules.specs.Edges.{CellEdge, pointEdges}
 use Rattle.rules.specs.Steps.{Step, leafSteps, edgeOf, twinOf}
 use Rattle.rules.specs.Closing.{inOneFace, Carries, step}
 use Rattle.base.proofs.Tests.{below}
-use Rattle.base.proofs.Lists.{In}
-use Rattle.base.proofs.Sums.{sum-add}
+use Rattle.base.proofs.Lists.{In, any→in}
+use Rattle.base.proofs.Sums.{sum-add, in-sum}
 use Rattle.octree.specs.Lawful.{isCell, Lawful}
-use Rattle.geometry.proofs.Interface.{leavesOf, tally, leave, enter, Paired}
+use Rattle.geometry.proofs.Interface.{leavesOf, tally, leave, enter, meeting, Paired}
 use Rattle.geometry.proofs.Square.{drawn, fore, back, left-is, entered-is}
 use Rattle.geometry.proofs.Closed.{closed}
 use Rattle.geometry.proofs.Sides.{parted, parted-unit}
@@ -35,6 +35,23 @@ leave-is ss p = refl
 pub enter-is : (ss : List Step) (p : ℕ) → enter ss p ≡ sum (λ t. hits p (t .1)) ss
 unfolding enter
 enter-is ss p = refl
+
+-- a list with a step that meets p has one that leaves or enters it
+pub meeting→ : (ss : List Step) (p : ℕ) → T (meeting ss p) → 1 ≤ leave ss p + enter ss p
+unfolding leave enter
+meeting→ ss p m =
+    let (t, i, u) = any→in (λ (t : Step). eqb p (t .0) || eqb p (t .1)) ss m in
+    omega (
+      arith,
+      in-sum (λ (t : Step). hits p (t .0)) ss t i,
+      in-sum (λ (t : Step). hits p (t .1)) ss t i,
+      either-hits (eqb p (t .0)) (eqb p (t .1)) u,
+    )
+  where
+    either-hits : (a b : Bool) → T (a || b) → 1 ≤ bit a + bit b
+    either-hits true b u = omega arith
+    either-hits false true u = omega arith
+    either-hits false false u = absurd u
 
 pub tally-is : (p q : ℕ) (ss : List Step) → tally p q ss ≡ sum (λ t. step p q (t .0) (t .1)) ss
 unfolding tally

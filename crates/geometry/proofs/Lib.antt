@@ -22,3 +22,4 @@ pub mod Nested
 pub mod Touching
 pub mod SmallFaces
 pub mod FaceEdges
+pub mod Around

@@ -1,11 +1,11 @@
--- A point lies on one undivided edge; so it is left at most once and entered at most once on the surface of a cell, and only on sides in whose
--- plane that edge lies.
+-- A point lies on one undivided edge; so it is left at most once and entered at most once on the surface of a cell, only of a cell near that edge, and
+-- only on sides in whose plane that edge lies.
 use Prim.Native.Nat.{ℕ, suc, _+_, _*_, _^_, _≤_, _<_}
 use native.Mathlib.Nat.{mul-le-mul-left}
 use native.Mathlib.Omega.{arith}
 use lib.Pow.{pow-pos}
 use mathlib.Core.Path.{_≡_, refl, sym, _∙_, ap, subst}
-use mathlib.Core.Logic.{inl, inr}
+use mathlib.Core.Logic.{_⊎_, inl, inr}
 use mathlib.Core.Bool.{Bool, true, false, not, Bool·not-not}
 use lib.Dec.{T, eqb, eqb→eq}
 use lib.ListN.{length}
@@ -14,12 +14,13 @@ use Rattle.base.specs.Grid.{Place, Axis, X, Y, Z, next, along, axisNumber}
 use Rattle.rules.specs.Survey.{Survey}
 use Rattle.rules.specs.Edges.{CellEdge, upperEnd, pointEdges}
 use Rattle.rules.specs.Steps.{edgeOf}
+use Rattle.base.proofs.Tests.{below}
 use Rattle.octree.specs.Lawful.{isCell, Lawful}
 use Rattle.geometry.proofs.Grid.{At, place, move-across, turn-first, turn-second, along-across, along-first, along-second, place-of, total, views, seen}
 use Rattle.geometry.proofs.Face.{rises}
 use Rattle.geometry.proofs.Square.{pointAt, fore, back, drawn, left-is, entered-is}
 use Rattle.geometry.proofs.Area.{within, within⁺, within-in, within-sub, area, side, Kept}
-use Rattle.geometry.proofs.Once.{Seat, besideNext, besideLast, Beside, once, Off, off, none-own}
+use Rattle.geometry.proofs.Once.{Seat, besideNext, besideLast, Beside, once, Near, near, Off, off, none-own}
 use Rattle.geometry.proofs.Sides.{EdgeAt, Flank, parted, flank-kept, side-edges}
 use Rattle.geometry.proofs.Small.{shown}
 use Rattle.geometry.proofs.Trees.{differ, oddIs}
@@ -76,6 +77,10 @@ seatOf e = record {
   first = along (next (e .axis)) (e .low);
   second = along (next (next (e .axis))) (e .low);
 }
+
+-- the first unit of an edge lies in the cell of level k at c or on its surface
+abbrev pub NearCell : Seat → ℕ → Place → Type 0
+NearCell e k c = Near e k (along (e .axis) c) (along (next (e .axis)) c) (along (next (next (e .axis))) c)
 
 -- an edge does not lie in the plane n of axis b
 abbrev pub OffPlane : CellEdge → Axis → ℕ → Type 0
@@ -255,27 +260,46 @@ module _ (s : Survey) (law : Lawful s) where
   abbrev flanks : (a : Axis) (k n u v : ℕ) → T (isCell (s .cells) k (place a n u v)) → Flank (s .cells) a k n u v × Flank (s .cells) a k (n + 2 ^ k) u v
   flanks a k n u v c = ((n, inl refl, c), (n, inr refl, c))
 
-  -- at most one such step is seen on a cell
-  cell-once : (p q : Axis → At ℕ) (r : Bool) (e : Seat) → Beside (Flank (s .cells)) p q r e → (k : ℕ) (c : Place) → T (isCell (s .cells) k c)
-      → seen (parted (s .cells)) p q k c ≤ 1
-  cell-once p q r e b k c t =
+  -- at most one such step is seen on a cell, and only on one that is near the edge
+  cell-sees : (p q : Axis → At ℕ) (r : Bool) (e : Seat) → Beside (Flank (s .cells)) p q r e → (k : ℕ) (c : Place) → T (isCell (s .cells) k c)
+      → (seen (parted (s .cells)) p q k c ≤ 1) × (1 ≤ seen (parted (s .cells)) p q k c → NearCell e k c)
+  cell-sees p q r e b k c t =
       let a = e .axis in
       let x = along a c in
       let y = along (next a) c in
       let z = along (next (next a)) c in
       let t0 : T (isCell (s .cells) k (place a x y z)) = subst (λ d. T (isCell (s .cells) k d)) (sym (place-of a c)) t in
-      subst (λ d. seen (parted (s .cells)) p q k d ≤ 1) (place-of a c)
-      (once (parted (s .cells)) (Flank (s .cells)) kept p q r e b k x y z (flanks a k x y z t0)
-      (flanks (next a) k y z x (subst (λ d. T (isCell (s .cells) k d)) (turn-first a x y z) t0))
-      (flanks (next (next a)) k z x y (subst (λ d. T (isCell (s .cells) k d)) (turn-second a x y z) t0)))
+      let t1 = flanks a k x y z t0 in
+      let t2 = flanks (next a) k y z x (subst (λ d. T (isCell (s .cells) k d)) (turn-first a x y z) t0) in
+      let t3 = flanks (next (next a)) k z x y (subst (λ d. T (isCell (s .cells) k d)) (turn-second a x y z) t0) in
+      subst (λ d. (seen (parted (s .cells)) p q k d ≤ 1) × (1 ≤ seen (parted (s .cells)) p q k d → NearCell e k c)) (place-of a c)
+      (once (parted (s .cells)) (Flank (s .cells)) kept p q r e b k x y z t1 t2 t3, near (parted (s .cells)) (Flank (s .cells)) kept p q r e b k x y z t1 t2 t3)
+
+  -- of the steps that leave point v, and of those that enter it
+  left-sees : (v k : ℕ) (c : Place) → T (isCell (s .cells) k c)
+      → (shown s (λ t. hits v (t .0)) k c ≤ 1) × (1 ≤ shown s (λ t. hits v (t .0)) k c → NearCell (seatOf (edgeOf s v)) k c)
+  unfolding shown
+  left-sees v = cell-sees (left s v) (entered s v) _ _ (beside-left v)
+
+  entered-sees : (v k : ℕ) (c : Place) → T (isCell (s .cells) k c)
+      → (shown s (λ t. hits v (t .1)) k c ≤ 1) × (1 ≤ shown s (λ t. hits v (t .1)) k c → NearCell (seatOf (edgeOf s v)) k c)
+  unfolding shown
+  entered-sees v = cell-sees (entered s v) (left s v) _ _ (beside-entered v)
 
   pub left-once : (v k : ℕ) (c : Place) → T (isCell (s .cells) k c) → shown s (λ t. hits v (t .0)) k c ≤ 1
-  unfolding shown
-  left-once v k c t = cell-once (left s v) (entered s v) _ _ (beside-left v) k c t
+  left-once v k c t = left-sees v k c t .0
 
   pub entered-once : (v k : ℕ) (c : Place) → T (isCell (s .cells) k c) → shown s (λ t. hits v (t .1)) k c ≤ 1
-  unfolding shown
-  entered-once v k c t = cell-once (entered s v) (left s v) _ _ (beside-entered v) k c t
+  entered-once v k c t = entered-sees v k c t .0
+
+  -- a cell on which a step meets point v is near the edge of v
+  pub step-near : (v k : ℕ) (c : Place) → T (isCell (s .cells) k c) → 1 ≤ shown s (λ t. hits v (t .0)) k c + shown s (λ t. hits v (t .1)) k c
+      → NearCell (seatOf (edgeOf s v)) k c
+  step-near v k c t h = go (below 0 (shown s (λ t. hits v (t .0)) k c))
+    where
+      go : (0 < shown s (λ t. hits v (t .0)) k c) ⊎ (shown s (λ t. hits v (t .0)) k c ≤ 0) → NearCell (seatOf (edgeOf s v)) k c
+      go (inl i) = left-sees v k c t .1 i
+      go (inr i) = entered-sees v k c t .1 (omega arith)
 
   -- on a side in whose plane the edge of point v does not lie, no step meets v
   pub left-off : (v : ℕ) (b : Axis) (k n x y : ℕ) → Flank (s .cells) b k n x y → OffPlane (edgeOf s v) b n

@@ -1,7 +1,7 @@
 -- Round the first unit of an edge, a cell's surface turns at most once each way; so the steps that leave a point, which are all drawn on one side
--- of its edge, are at most one on a cell, and so are those that enter it.
-use Prim.Native.Nat.{ℕ, suc, _+_, _*_, _^_, _≤_, _<_}
-use native.Mathlib.Nat.{mul-le-mul-left}
+-- of its edge, are at most one on a cell, and so are those that enter it; and such a cell has the first unit in it or on its surface.
+use Prim.Native.Nat.{ℕ, zero, suc, _+_, _*_, _^_, _≤_, _<_}
+use native.Mathlib.Nat.{mul-le-mul, mul-le-mul-left, mul-le-mul-right}
 use native.Mathlib.Decide.{decLt}
 use native.Mathlib.Omega.{arith}
 use lib.Pow.{pow-pos}
@@ -10,8 +10,8 @@ use mathlib.Core.Logic.{_≢_}
 use mathlib.Core.Bool.{Bool, true, false, not}
 use Rattle.base.specs.Grid.{Axis, X, Y, Z, next}
 use Rattle.geometry.proofs.Grid.{At, place, total, views, seen}
-use Rattle.geometry.proofs.Area.{within, within-in, within-below, within-above, within-one, within-off, within-adds, within⁺, side, side-adds, apart}
-use Rattle.geometry.proofs.Area.{Area, area, total-none, Kept, total-le, at-most}
+use Rattle.geometry.proofs.Area.{within, within-in, within-below, within-above, within-one, within-off, within→, within-sub, within-adds, within⁺}
+use Rattle.geometry.proofs.Area.{side, side-sub, side-adds, apart, Area, area, total-none, Kept, total-le, at-most}
 
 -- ---- round a rectangle
 
@@ -119,6 +119,57 @@ seen-from d s t X k n u v = omega arith
 seen-from d s t Y k n u v = omega arith
 seen-from d s t Z k n u v = omega arith
 
+-- which of the unit squares beside the first unit of an edge lie on the four sides along the edge of the cell of level k at x y w
+unfoldable besides : Bool → Seat → At ℕ
+unfolding area
+besides r e k x y w =
+    area (besideNext r e) k (y + 2 ^ k) w x + area (besideNext (not r) e) k y w x
+    + (area (besideLast (not r) e) k (w + 2 ^ k) x y + area (besideLast r e) k w x y)
+
+-- at most one of them
+besides-one : (r : Bool) (e : Seat) (k x y w : ℕ) → besides r e k x y w ≤ 1
+unfolding besides
+besides-one r e k x y w =
+    let m = 2 ^ k in
+    let j = e .first in
+    let l = e .second in
+    scale (within (e .start) x m) (within j (y + m) 1) (within j y 1) (within l (w + m) 1) (within l w 1)
+    (side r l w m) (side (not r) l w m) (side (not r) j y m) (side r j y m) (within-one (e .start) x m) (turns r j l y w m (pow-pos k))
+
+-- the first unit of an edge lies in the cell of level k at x y w or on its surface
+abbrev pub Near : Seat → ℕ → ℕ → ℕ → ℕ → Type 0
+Near e k x y w = (x ≤ e .start) × (e .start < x + 2 ^ k) × (y ≤ e .first) × (e .first ≤ y + 2 ^ k) × (w ≤ e .second) × (e .second ≤ w + 2 ^ k)
+
+-- the factors of a product that is not 0
+factors : (a b c : ℕ) → 1 ≤ a * (b * c) → (1 ≤ a) × (1 ≤ b) × (1 ≤ c)
+factors zero b c h = absurd (omega arith)
+factors (suc a) zero c h = absurd (omega arith)
+factors (suc a) (suc b) zero h = absurd (omega arith)
+factors (suc a) (suc b) (suc c) h = (omega arith, omega arith, omega arith)
+
+-- none of them, unless the first unit is near
+besides-near : (r : Bool) (e : Seat) (k x y w : ℕ) → 1 ≤ besides r e k x y w → Near e k x y w
+unfolding besides
+besides-near r e k x y w h =
+    let m = 2 ^ k in
+    let j = e .first in
+    let l = e .second in
+    let A = within (e .start) x m in
+    let start : (a u : ℕ) → within a u 1 ≤ within a u (suc m) = λ a u. within-sub a u 1 u (suc m) (omega arith) (omega (arith, pow-pos k)) in
+    let end : (a u : ℕ) → within a (u + m) 1 ≤ within a u (suc m) = λ a u. within-sub a (u + m) 1 u (suc m) (omega arith) (omega arith) in
+    let all : 1 ≤ A * (within j y (suc m) * within l w (suc m)) = omega (
+      arith,
+      mul-le-mul (end j y) (mul-le-mul-right A (side-sub r l w m)),
+      mul-le-mul (start j y) (mul-le-mul-right A (side-sub (not r) l w m)),
+      mul-le-mul (end l w) (mul-le-mul-left A (side-sub (not r) j y m)),
+      mul-le-mul (start l w) (mul-le-mul-left A (side-sub r j y m)),
+    ) in
+    let (own, first, second) = factors A (within j y (suc m)) (within l w (suc m)) all in
+    let (a, b) = within→ (e .start) x m own in
+    let (c, d) = within→ j y (suc m) first in
+    let (f, g) = within→ l w (suc m) second in
+    (a, b, c, omega arith, f, omega arith)
+
 -- how an axis stands to another
 pub data Which (a b : Axis) : Type 0 where
   same : b ≡ a → Which a b
@@ -155,14 +206,11 @@ module _ (d : Axis → At Bool) (Q : Axis → ℕ → ℕ → ℕ → ℕ → Ty
           omega (arith, total-le (d a) (Q a) (keep a) (t a) (λ k n u v. 0) (λ k n u v q. omega (arith, c .own k n u v q)) k n u v q),
         )
 
-    -- on the surface of any cell at most one such step is seen
-    pub once : (k x y w : ℕ) → Sides (e .axis) k x y w → Sides (next (e .axis)) k y w x → Sides (next (next (e .axis))) k w x y
-        → seen d s t k (place (e .axis) x y w) ≤ 1
-    unfolding area
-    once k x y w qa qb qc =
-        let i = e .start in
-        let j = e .first in
-        let l = e .second in
+    -- what the surface of a cell shows of such steps is no more than the unit squares on it beside the edge
+    bounded : (k x y w : ℕ) → Sides (e .axis) k x y w → Sides (next (e .axis)) k y w x → Sides (next (next (e .axis))) k w x y
+        → seen d s t k (place (e .axis) x y w) ≤ besides r e k x y w
+    unfolding besides
+    bounded k x y w qa qb qc =
         let b : Axis = next (e .axis) in
         let g : Axis = next b in
         let m = 2 ^ k in
@@ -172,9 +220,17 @@ module _ (d : Axis → At Bool) (Q : Axis → ℕ → ℕ → ℕ → ℕ → Ty
         let b2 = at-most (d b) (Q b) (keep b) (t b) (besideNext (not r) e) (c .next-high) k y w x (qb .0) in
         let c1 = at-most (d g) (Q g) (keep g) (s g) (besideLast (not r) e) (c .last-low) k (w + m) x y (qc .1) in
         let c2 = at-most (d g) (Q g) (keep g) (t g) (besideLast r e) (c .last-high) k w x y (qc .0) in
-        let turned = scale (within i x m) (within j (y + m) 1) (within j y 1) (within l (w + m) 1) (within l w 1)
-        (side r l w m) (side (not r) l w m) (side (not r) j y m) (side r j y m) (within-one i x m) (turns r j l y w m (pow-pos k)) in
         rw (seen-from d s t (e .axis) k x y w) (omega arith)
+
+    -- on the surface of any cell at most one such step is seen
+    pub once : (k x y w : ℕ) → Sides (e .axis) k x y w → Sides (next (e .axis)) k y w x → Sides (next (next (e .axis))) k w x y
+        → seen d s t k (place (e .axis) x y w) ≤ 1
+    once k x y w qa qb qc = omega (arith, bounded k x y w qa qb qc, besides-one r e k x y w)
+
+    -- and only where the edge's first unit lies in the cell or on its surface
+    pub near : (k x y w : ℕ) → Sides (e .axis) k x y w → Sides (next (e .axis)) k y w x → Sides (next (next (e .axis))) k w x y
+        → 1 ≤ seen d s t k (place (e .axis) x y w) → Near e k x y w
+    near k x y w qa qb qc h = besides-near r e k x y w (omega (arith, bounded k x y w qa qb qc))
 
     -- on a square in whose plane the edge does not lie none is seen
     off-next : (k n u v : ℕ) → Q (next (e .axis)) k n u v → e .first ≢ n → total (d (next (e .axis))) (s (next (e .axis))) k n u v ≡ 0
