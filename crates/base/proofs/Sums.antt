@@ -6,7 +6,7 @@ use mathlib.Core.Bool.{Bool, true, false, cond}
 use mathlib.Core.List.{List, [], _∷_, _++_, map}
 use native.Mathlib.Omega.{arith}
 use lib.Dec.{T, eqb, eqb→eq, eqb-refl}
-use lib.ListN.{length, getD}
+use lib.ListN.{length, getD, length-append}
 use Rattle.base.specs.Lists.{any, keep, distinct, collect, position, sum, count, bit}
 use Rattle.base.proofs.Tests.{either, below, not-both, bit-true, bit-le}
 use Rattle.base.proofs.Lists.{In, in→any, in-distinct, in-count}
@@ -70,6 +70,15 @@ module _ {A : Type 0} where
       go true ih = omega arith
       go false ih = omega arith
 
+  -- how many elements pass a test
+  pub length-keep : (c : A → Bool) (xs : List A) → length (keep c xs) ≡ sum (λ x. bit (c x)) xs
+  length-keep c [] = refl
+  length-keep c (x ∷ xs) = go (c x) (length-keep c xs)
+    where
+      go : (b : Bool) → length (keep c xs) ≡ sum (λ x. bit (c x)) xs → length (cond b (x ∷ keep c xs) (keep c xs)) ≡ bit b + sum (λ x. bit (c x)) xs
+      go true ih = omega arith
+      go false ih = omega arith
+
 module _ {A B : Type 0} where
   pub sum-map : (f : B → ℕ) (g : A → B) (xs : List A) → sum f (map g xs) ≡ sum (λ x. f (g x)) xs
   sum-map f g [] = refl
@@ -78,6 +87,11 @@ module _ {A B : Type 0} where
   pub sum-collect : (f : B → ℕ) (g : A → List B) (xs : List A) → sum f (collect g xs) ≡ sum (λ x. sum f (g x)) xs
   sum-collect f g [] = refl
   sum-collect f g (x ∷ xs) = omega (arith, sum-append f (g x) (collect g xs), sum-collect f g xs)
+
+  -- the lengths of the lists, added up
+  pub length-collect : (g : A → List B) (xs : List A) → length (collect g xs) ≡ sum (λ x. length (g x)) xs
+  length-collect g [] = refl
+  length-collect g (x ∷ xs) = omega (arith, length-append (g x) (collect g xs), length-collect g xs)
 
   -- the order of two sums does not matter
   pub sum-swap : (f : A → B → ℕ) (xs : List A) (ys : List B) → sum (λ x. sum (f x) ys) xs ≡ sum (λ y. sum (λ x. f x y) xs) ys

@@ -14,14 +14,14 @@ use native.Mathlib.Omega.{arith}
 use native.Mathlib.Decide.{ℕ-discrete}
 use lib.Dec.{eqb, T}
 use borrow.Author.Tests.{eqb-true, eqb-false, eq-eqb}
-use Rattle.base.specs.Lists.{bit, sum, any, collect, first, count, often}
-use Rattle.base.proofs.Tests.{or→, bit-true}
-use Rattle.base.proofs.Lists.{In, any→in, in-keep, keep-in, count-in}
-use Rattle.base.proofs.Sums.{sum-le, sum-add, sum-one, sum-keep-le, in-sum, count-once}
+use Rattle.base.specs.Lists.{bit, sum, collect, first, count, often}
+use Rattle.base.proofs.Lists.{in-keep, keep-in, count-in}
+use Rattle.base.proofs.Sums.{sum-le, sum-add, sum-one, sum-keep-le, count-once}
 use Rattle.base.proofs.Counts.{equal, equal-eq, equal-ne, in-often, often-in, take-out, length-count, any-has}
 use Rattle.rules.specs.Steps.{Step, Triangle, met, onward, loops}
 use Rattle.rules.specs.Closing.{run, step, runs}
-use Rattle.geometry.proofs.Interface.{tally, leave, enter, Paired}
+use Rattle.geometry.proofs.Interface.{tally, leave, enter, meeting, Paired}
+use Rattle.geometry.proofs.Laws.{meeting→}
 use Rattle.closing.specs.Cutting.{turn, Closes}
 use Rattle.closing.specs.Permutes.{Permutes}
 use Rattle.closing.proofs.Loops.{loops-balance}
@@ -121,10 +121,6 @@ out-twin (t ∷ ss) twin p h = go (eqb p (t .0)) refl (out-twin ss twin p (omega
     go true e ih = absurd (omega (arith, equal-eq p (t .0) (eqb-true p (t .0) e)))
     go false e ih = ih
 
--- a face step meets p
-abbrev meeting : List Step → ℕ → Bool
-meeting ss p = any (λ t. eqb p (t .0) || eqb p (t .1)) ss
-
 met-has : (ss : List Step) (n p : ℕ) → p < n → 1 ≤ leave ss p + enter ss p → 1 ≤ often p (met ss n)
 unfolding leave enter
 met-has ss n p l h =
@@ -138,15 +134,7 @@ met-has ss n p l h =
     go false false e = refl
 
 met-only : (ss : List Step) (n p : ℕ) → 1 ≤ often p (met ss n) → 1 ≤ leave ss p + enter ss p
-unfolding leave enter
-met-only ss n p h =
-    let is-met = in-keep (meeting ss) (count 0 n) p (often-in p (met ss n) h) .1 in
-    let t = any→in (λ (t : Step). eqb p (t .0) || eqb p (t .1)) ss is-met in
-    go (t .0) (t .1) (or→ (eqb p (t .0 .0)) (eqb p (t .0 .1)) (t .2))
-  where
-    go : (t : Step) → In t ss → T (eqb p (t .0)) ⊎ T (eqb p (t .1)) → 1 ≤ sum (λ (t : Step). equal p (t .0)) ss + sum (λ (t : Step). equal p (t .1)) ss
-    go t i (inl u) = omega (arith, bit-true (eqb p (t .0)) u, in-sum (λ (t : Step). equal p (t .0)) ss t i)
-    go t i (inr u) = omega (arith, bit-true (eqb p (t .1)) u, in-sum (λ (t : Step). equal p (t .1)) ss t i)
+met-only ss n p h = meeting→ ss p (in-keep (meeting ss) (count 0 n) p (often-in p (met ss n) h) .1)
 
 -- ---- the leaf
 

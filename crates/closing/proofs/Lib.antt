@@ -6,5 +6,6 @@ pub mod Drawing
 pub mod Inside
 pub mod Outside
 pub mod Closing
+pub mod Few
 pub mod Wrong
 pub mod Weights

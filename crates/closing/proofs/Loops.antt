@@ -1,6 +1,7 @@
 -- The loops of a leaf have each of its points once, each followed by its next point; so the leaf's triangles balance but for its steps.
 --     On v y                  y is on the loop through v: an equivalence of the leaf's points (on-sym, on-trans)
 --     loops-once              every point of the leaf is on one of its loops, once
+--     loops-points            a sum over the points of the loops is the sum over the points of the leaf
 --     loops-steps             the steps of the loops are those from each point to its next
 --     loops-balance           the triangles of the loops, with each weight of steps
 -- Assumes nothing.
@@ -194,13 +195,16 @@ module _ (n : ℕ) (onward : ℕ → ℕ) (points : List ℕ) (per : Permutes n 
           λ v j. starts x i (c .0) (c .1) (c .2) v j (lowestFirst (loop n onward v)) refl (ℕ-discrete (c .0) v) (eq-zero-or-pos (has x v)) in
           omega (arith, loops-sum (often x) (equal (c .0)) start, per .once x, per .once (c .0), on-in x (c .0) i (c .1))
 
+  -- a sum over the points of the loops is the sum over the points of the leaf
+  pub loops-points : (f : ℕ → ℕ) → sum (sum f) (loops n onward points) ≡ sum f points
+  loops-points f =
+      sym (sum-collect f (λ l. l) (loops n onward points))
+      ∙ sum-perm f (collect (λ l. l) (loops n onward points)) points (λ x. sum-collect (equal x) (λ l. l) (loops n onward points) ∙ loops-once x)
+
   -- the steps of the loops are those from each point to its next
   pub loops-steps : (w : ℕ → ℕ → ℕ) → sum (cycle w) (loops n onward points) ≡ sum (λ p. w p (onward p)) points
   loops-steps w =
-      sum-same (cycle w) (sum (λ p. w p (onward p))) (loops n onward points) stepped
-      ∙ sym (sum-collect (λ p. w p (onward p)) (λ l. l) (loops n onward points))
-      ∙ sum-perm (λ p. w p (onward p)) (collect (λ l. l) (loops n onward points)) points
-      (λ x. sum-collect (equal x) (λ l. l) (loops n onward points) ∙ loops-once x)
+      sum-same (cycle w) (sum (λ p. w p (onward p))) (loops n onward points) stepped ∙ loops-points (λ p. w p (onward p))
     where
       stepped : (l : List ℕ) → In l (loops n onward points) → cycle w l ≡ sum (λ p. w p (onward p)) l
       stepped l i =
