@@ -10,31 +10,29 @@ use native.Mathlib.Omega.{arith}
 use native.Mathlib.Numerals.{add-one}
 use native.Mathlib.Decide.{ℕ-discrete}
 use mathlib.Core.Path.{_≡_, refl, sym, ap, _∙_}
-use mathlib.Core.Logic.{_⊎_, inl, inr}
-use mathlib.Core.Bool.{Bool, true, false, not, _||_, cond}
+use mathlib.Core.Bool.{Bool, true, false, not, cond}
 use mathlib.Core.List.{List, [], _∷_, _++_, append-nil}
 use lib.Dec.{T, eqb}
 use lib.ListN.{length, take, drop, length-append}
 use lib.Seq.{take-suc, take-length}
 use lib.Ieee.{Float}
 use borrow.Author.Tests.{eq-eqb, ne-eqb}
-use Rattle.base.specs.Lists.{keep, collect, sum, bit}
+use Rattle.base.specs.Lists.{keep, collect}
 use Rattle.base.specs.Grid.{origin}
-use Rattle.base.proofs.Tests.{→true, or→, bit-true}
-use Rattle.base.proofs.Lists.{In, in-get, any→in, keep-in, collect-append}
-use Rattle.base.proofs.Sums.{sum-one, sum-le, sum-collect, in-sum}
+use Rattle.base.proofs.Tests.{→true}
+use Rattle.base.proofs.Lists.{In, in-get, keep-in, collect-append}
 use Rattle.rules.specs.Survey.{Cell, cell, entry, entries, cellsOf, Survey}
 use Rattle.rules.specs.Edges.{pointEdges}
-use Rattle.rules.specs.Steps.{Step, Triangle, fan, fanFrom, leafSteps, twinOf, met, onward, loops, leafLoops, trianglesBy, allTriangles}
+use Rattle.rules.specs.Steps.{Triangle, fan, leafSteps, twinOf, met, onward, leafLoops, trianglesBy, allTriangles}
 use Rattle.rules.specs.Outputs.{entriesRight, surveyRefusal, accepted, surveyOf, numbers}
 use Rattle.octree.proofs.Accepted.{checked, accepted→, lawful}
 use Rattle.octree.proofs.Records.{cell-count, mark-of}
-use Rattle.geometry.proofs.Interface.{leavesOf, leave, enter, Paired, FaceLaws}
+use Rattle.geometry.proofs.Interface.{leavesOf, Paired, FaceLaws}
+use Rattle.geometry.proofs.Laws.{meeting→}
 use Rattle.geometry.proofs.Theorem.{face-laws}
-use Rattle.closing.specs.Cutting.{path, cycle}
 use Rattle.closing.specs.Permutes.{Permutes}
-use Rattle.closing.proofs.Loops.{loops-steps}
 use Rattle.closing.proofs.Leaf.{onward-permutes}
+use Rattle.closing.proofs.Few.{loops-few, fan-few}
 use Rattle.cells.specs.Laid.{cellAt}
 use Rattle.edges.specs.Tables.{slotsBelow, Twins}
 use Rattle.edges.proofs.Points.{keep-append, point-count}
@@ -65,49 +63,7 @@ one-kept : (drawn : Cell → List Triangle) (c : Cell) (split : Bool) → collec
 one-kept drawn c true = refl
 one-kept drawn c false = append-nil (drawn c)
 
--- ---- few triangles
-
-path-one : (v : ℕ) (us : List ℕ) (z : ℕ) → path (λ p q. 1) v us z ≡ 1 + length us
-path-one v [] z = refl
-path-one v (u ∷ us) z = omega (arith, path-one u us z)
-
-fan-from-length : (v a : ℕ) (r : List ℕ) → length (fanFrom v a r) ≡ length r
-fan-from-length v a [] = refl
-fan-from-length v a (b ∷ r) = ap suc (fan-from-length v b r)
-
--- a loop has no more triangles than steps
-fan-few : (l : List ℕ) → length (fan l) ≤ cycle (λ p q. 1) l
-fan-few [] = omega arith
-fan-few (v ∷ []) = omega arith
-fan-few (v ∷ a ∷ r) = omega (arith, fan-from-length v a r, path-one v (a ∷ r) v)
-
--- the loops of a permutation have no more triangles than it has points
-loops-few : (n : ℕ) (f : ℕ → ℕ) (points : List ℕ) → Permutes n f points → length (collect fan (loops n f points)) ≤ n
-loops-few n f points per =
-    let one : ℕ → ℕ → ℕ = λ p q. 1 in
-    let ls = loops n f points in
-    omega (
-      arith,
-      sum-one (collect fan ls),
-      sum-collect (λ (t : Triangle). 1) fan ls,
-      sum-le (λ l. sum (λ (t : Triangle). 1) (fan l)) (cycle one) ls (λ l i. omega (arith, sum-one (fan l), fan-few l)),
-      loops-steps n f points per one,
-      sum-one points,
-      per .few,
-    )
-
 -- ---- the leaf of a record
-
--- a point that a step meets is left or entered
-met-point : (ss : List Step) (v : ℕ) → T (meets ss v) → 1 ≤ leave ss v + enter ss v
-unfolding leave enter
-met-point ss v m =
-    let t = any→in (λ (t : Step). eqb v (t .0) || eqb v (t .1)) ss m in
-    go (t .0) (t .1) (or→ (eqb v (t .0 .0)) (eqb v (t .0 .1)) (t .2))
-  where
-    go : (t : Step) → In t ss → T (eqb v (t .0)) ⊎ T (eqb v (t .1)) → 1 ≤ sum (λ (t : Step). bit (eqb v (t .0))) ss + sum (λ (t : Step). bit (eqb v (t .1))) ss
-    go t i (inl u) = omega (arith, bit-true (eqb v (t .0)) u, in-sum (λ (t : Step). bit (eqb v (t .0))) ss t i)
-    go t i (inr u) = omega (arith, bit-true (eqb v (t .1)) u, in-sum (λ (t : Step). bit (eqb v (t .1))) ss t i)
 
 module _ (tc tk : List ℕ) (clearance : Float) (ok : accepted tc tk clearance ≡ true) where
   abbrev s : Survey
@@ -136,7 +92,7 @@ module _ (tc tk : List ℕ) (clearance : Float) (ok : accepted tc tk clearance �
         long = omega (arith, points-few, tw .size);
         steps = leafSteps s c;
         twin = twinOf s;
-        inside = λ v m. paired .within v (met-point (leafSteps s c) v (→true m));
+        inside = λ v m. paired .within v (meeting→ (leafSteps s c) v (→true m));
         table = λ v h. tw .entry v (omega (arith, slot-count));
         permutes = permutes c i;
       }
@@ -178,7 +134,7 @@ module _ (tc tk : List ℕ) (clearance : Float) (ok : accepted tc tk clearance �
           (→true (ap not whole))
 
       pub met-inside : (v : ℕ) → meets (leafSteps s (cellAt tc n)) v ≡ true → v < length (pointEdges s)
-      met-inside v m = laws .paired (cellAt tc n) is-leaf .within v (met-point (leafSteps s (cellAt tc n)) v (→true m))
+      met-inside v m = laws .paired (cellAt tc n) is-leaf .within v (meeting→ (leafSteps s (cellAt tc n)) v (→true m))
 
       -- what drawing the loops of the leaf's trace asks for, and what it gives
       module _ (twins : List ℕ) (limit : ℕ) (t : List ℕ) (tw : Twins s twins) (traced : Traced limit (leafSteps s (cellAt tc n)) t) where
@@ -201,12 +157,15 @@ module _ (tc tk : List ℕ) (clearance : Float) (ok : accepted tc tk clearance �
     record-few = go (ℕ-discrete (entry tc n) 0)
       where
         go : Dec (entry tc n ≡ 0) → length (recordTriangles s (cellAt tc n)) ≤ 14616
-        go (yes e) = omega (
-          arith,
-          ap length (record-leaf e),
-          loops-few _ (onward (leafSteps s (cellAt tc n)) (twinOf s)) _ (permutes (cellAt tc n) (is-leaf e)),
-          points-few,
-        )
+        go (yes e) =
+            let per = permutes (cellAt tc n) (is-leaf e) in
+            omega (
+              arith,
+              ap length (record-leaf e),
+              loops-few _ (onward (leafSteps s (cellAt tc n)) (twinOf s)) _ per fan fan-few,
+              per .few,
+              points-few,
+            )
         go (no e) = omega (arith, ap length (record-split e))
 
   -- ---- the first records
