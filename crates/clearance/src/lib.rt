@@ -3,13 +3,20 @@
 use rules::Answer;
 use rules::Edge;
 use rules::End;
+use water::Reference;
 ghost use mathlib.Core.Path.{_≡_};
-ghost use Rattle.rules.specs.Outputs.{surveyRefusal, surveyOf, enquiry, asked, answered, StaysOn};
+ghost use mathlib.Core.Bool.{not};
+ghost use lib.Dec.{T};
+ghost use Rattle.base.specs.Grid.{Place};
+ghost use Rattle.rules.specs.Steps.{allTriangles};
+ghost use Rattle.rules.specs.Outputs.{surveyRefusal, surveyOf, pointFloats, enquiry, asked, answered, StaysOn};
 ghost use Rattle.rules.specs.Closing.{ClosedIn};
+ghost use Rattle.rules.specs.Water.{sixfold, beyondBox};
 ghost use Rattle.drawing.specs.Draws.{lent, Draws};
+ghost use Rattle.volume.specs.Reckons.{drawnOf as drawnPart, Reckons};
 ghost use Rattle.clearance.specs.Reply.{endNumber, replyOf, told};
 ghost use Rattle.rules.specs.declared.Answer.the-variants.{Found};
-ghost use Rattle.clearance.specs.Counts.{drawnOf};
+ghost use Rattle.clearance.specs.Counts.{drawnOf, waterOf};
 
 // The answer of an enquiry as plain numbers: the number returned, whether the edge is crossing, the point's number and its place, and the wet end: 1 the
 // lower, 2 the upper, 0 where there is none.
@@ -30,6 +37,15 @@ pub struct Counts {
     pub number: u32,
     pub points: u32,
     pub triangles: u32,
+}
+
+// What the call for the volume returns: a number (0 if drawn), both counts, and six times the volume in cubic sixteenths.
+#[repr(C)]
+pub struct Volume {
+    pub number: u32,
+    pub points: u32,
+    pub triangles: u32,
+    pub sixfold: i64,
 }
 
 fn end_number(end: End) -> u32
@@ -130,5 +146,35 @@ pub extern "C" fn clearance_draw(
         number: d.number,
         points: d.points,
         triangles: d.triangles,
+    }
+}
+
+// Draws as clearance_draw does, and gives six times the volume inside, reckoned from a reference point of the box.
+#[no_mangle]
+pub extern "C" fn clearance_volume(
+    cells: &[u8],
+    corners: &[u8],
+    clearance: f32,
+    x: u32,
+    y: u32,
+    z: u32,
+    points: &mut [f32],
+    triangles: &mut [u32],
+) -> Volume
+    ensures exact { λ r. ⌜ Reckons (lent (now (cells .entry)) (now (corners .entry)) clearance (now (points .entry)) (now (triangles .entry)))
+        (record { x = x; y = y; z = z }) (waterOf r) (now (points .exit)) (now (triangles .exit)) ⌝ }
+    ensures closes { λ r. ⌜ (r .number ≡ 0 → ClosedIn (now (cells .entry)) (now (corners .entry)) clearance (drawnPart (waterOf r))
+        (now (points .exit)) (now (triangles .exit))) ⌝ }
+    ensures anywhere { λ r. ⌜ (r .number ≡ 0 → (q : Place) → T (not (beyondBox q))
+        → r .sixfold ≡ sixfold q (pointFloats (now (cells .entry)) (now (corners .entry)) clearance)
+        (allTriangles (surveyOf (now (cells .entry)) (now (corners .entry)) clearance))) ⌝ }
+{
+    let reference = Reference { x: x, y: y, z: z };
+    let w = volume::reckon(cells, corners, clearance, reference, points, triangles);
+    Volume {
+        number: w.number,
+        points: w.points,
+        triangles: w.triangles,
+        sixfold: w.sixfold,
     }
 }

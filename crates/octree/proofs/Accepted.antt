@@ -14,7 +14,7 @@ use Rattle.rules.specs.OpenAtBox.{openAtBox}
 use Rattle.rules.specs.Outputs.{badTable, entriesRight, rising, cornersRight, inRange, firstOf, surveyChecks, surveyRefusal, checks, accepted}
 use Rattle.rules.specs.Outputs.{drawingChecks, drawable, surveyOf}
 use Rattle.rules.specs.declared.Corner.{Corner}
-use Rattle.base.proofs.Tests.{and→, either, not-both, eq→eqb, →true, →false}
+use Rattle.base.proofs.Tests.{and→, either, not-both, eq→eqb, false→, →true, →false}
 use Rattle.base.proofs.Lists.{In, any→in, in→any, all→in}
 use Rattle.base.proofs.Places.{same→}
 use Rattle.base.proofs.Octants.{octant→, →octant}
@@ -59,6 +59,18 @@ first-none ts us n h = go (eqb (firstOf ts) 0) refl (sym (first-append ts us n) 
     go : (b : Bool) → eqb (firstOf ts) 0 ≡ b → cond b (firstOf us) (firstOf ts) ≡ 0 → (firstOf ts ≡ 0) × (firstOf us ≡ 0)
     go true e h = (eqb→eq (firstOf ts) 0 (→true e), h)
     go false e h = absurd (not-both (eq→eqb (firstOf ts) 0 h) e)
+
+-- a number that no check has is never given
+pub first-unlike : (n : ℕ) (ts : List (ℕ × Bool)) → T (not (eqb 0 n)) → T (all (λ t. not (eqb (t .0) n)) ts) → eqb (firstOf ts) n ≡ false
+first-unlike n [] z h = false→ (eqb 0 n) z
+first-unlike n (t ∷ ts) z h = go (t .1) (first-unlike n ts z (parts .1))
+  where
+    parts : T (not (eqb (t .0) n)) × T (all (λ t. not (eqb (t .0) n)) ts)
+    parts = and→ (not (eqb (t .0) n)) (all (λ t. not (eqb (t .0) n)) ts) h
+
+    go : (b : Bool) → eqb (firstOf ts) n ≡ false → eqb (cond b (t .0) (firstOf ts)) n ≡ false
+    go true later = false→ (eqb (t .0) n) (parts .0)
+    go false later = later
 
 -- one check more, after checks of which n is the first number
 module _ (ts : List (ℕ × Bool)) (none-zero : T (numbered ts)) (k : ℕ) (b : Bool) (n : ℕ) (is : n ≡ firstOf ts) where

@@ -3,3 +3,4 @@ pub mod Stored
 pub mod Bound
 pub mod Spots
 pub mod OnEdge
+pub mod InBox

@@ -32,18 +32,18 @@ sixfold-more r points (x ∷ ts) t =
     ap (λ (z : ℤ). sixfoldOf r points x +ℤ z) (sixfold-more r points ts t)
     ∙ sym (+ℤ-assoc (sixfoldOf r points x) (sixfold r points ts) (sixfoldOf r points t))
 
--- the triangle after the first k of a slice
+-- the triangles of a slice, by their number
+pub later : (triangles : List ℕ) (k : ℕ) → triangleAt (drop 3 triangles) (3 * k) ≡ triangleAt triangles (3 * suc k)
+later triangles k =
+    let at : (i j : ℕ) → 3 + i ≡ j → getD (drop 3 triangles) i 0 ≡ getD triangles j 0 =
+    λ i j e. getD-drop 3 triangles i 0 ∙ ap (λ (n : ℕ). getD triangles n 0) e in
+    (λ i. (at (3 * k) (3 * suc k) (omega arith) i, at (3 * k + 1) (3 * suc k + 1) (omega arith) i, at (3 * k + 2) (3 * suc k + 2) (omega arith) i))
+
 in-more : (k : ℕ) (triangles : List ℕ) → trianglesIn (suc k) triangles ≡ trianglesIn k triangles ++ triangleAt triangles (3 * k) ∷ []
 in-more zero triangles = refl
 in-more (suc k) triangles =
     ap (λ (l : List Triangle). (getD triangles 0 0, getD triangles 1 0, getD triangles 2 0) ∷ l)
     (in-more k (drop 3 triangles) ∙ ap (λ (t : Triangle). trianglesIn k (drop 3 triangles) ++ t ∷ []) (later triangles k))
-  where
-    later : (triangles : List ℕ) (k : ℕ) → triangleAt (drop 3 triangles) (3 * k) ≡ triangleAt triangles (3 * suc k)
-    later triangles k =
-        let at : (i j : ℕ) → 3 + i ≡ j → getD (drop 3 triangles) i 0 ≡ getD triangles j 0 =
-        λ i j e. getD-drop 3 triangles i 0 ∙ ap (λ (n : ℕ). getD triangles n 0) e in
-        (λ i. (at (3 * k) (3 * suc k) (omega arith) i, at (3 * k + 1) (3 * suc k + 1) (omega arith) i, at (3 * k + 2) (3 * suc k + 2) (omega arith) i))
 
 next-sum : (r : Place) (points : List Float) (triangles : List ℕ) (k : ℕ)
     → sixfold r points (trianglesIn (suc k) triangles) ≡ sixfold r points (trianglesIn k triangles) +ℤ sixfoldOf r points (triangleAt triangles (3 * k))

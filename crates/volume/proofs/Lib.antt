@@ -1,0 +1,5 @@
+pub mod Outcome
+pub mod References
+pub mod Slices
+pub mod Reckoned
+pub mod Laws
