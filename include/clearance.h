@@ -43,8 +43,8 @@
  *
  * REFUSALS
  *
- * What can't be drawn is refused by a number, enum clearance_refusal below. Checks run in rising number, but for 12, which stands between 8 and 9; the
- * first that applies is returned. A refused call has written nothing.
+ * What can't be drawn is refused by a number, enum clearance_refusal below. Checks run in rising number, but for 12 and 13, which stand between 8 and 9;
+ * the first that applies is returned. A refused call has written nothing.
  *
  * So a number's size does not tell what it means. A drawing is there to be had with 0, CLEARANCE_POINT_SLICE and CLEARANCE_TRIANGLE_SLICE, and with
  * nothing else: ask for these by name. A program that takes every number from CLEARANCE_POINT_SLICE on for a drawing takes a pool that is open at the
@@ -77,7 +77,8 @@ enum clearance_refusal {
     CLEARANCE_POINT_SLICE = 9, /* the point slice is too short */
     CLEARANCE_TRIANGLE_SLICE = 10, /* the triangle slice is too short */
     CLEARANCE_NO_EDGE = 11, /* no cell has this edge */
-    CLEARANCE_OPEN_AT_BOX = 12 /* the pool runs out of the surveyed box (a corner on an outer face is wet) */
+    CLEARANCE_OPEN_AT_BOX = 12, /* the pool runs out of the surveyed box (a corner on an outer face is wet) */
+    CLEARANCE_REFERENCE = 13 /* a coordinate of the reference point is above 1,024 */
 };
 
 /*
@@ -135,6 +136,27 @@ struct clearance_counts {
  */
 struct clearance_counts clearance_draw(const uint8_t *cells, size_t cells_length, const uint8_t *corners, size_t corners_length,
     float clearance, float *points, size_t points_length, uint32_t *triangles, size_t triangles_length);
+
+/* What reckoning the volume returns. */
+struct clearance_water {
+    uint32_t number; /* 0 if drawn, else the first refusal of 1 to 8, 12, 13, 9 or 10, in this order, that applies */
+    uint32_t points; /* as in clearance_counts; with refusal 13 too both are 0 */
+    uint32_t triangles;
+    int64_t sixfold; /* six times the volume inside, in cubic sixteenths of a unit; 0 for an empty drawing and with every refusal */
+};
+
+/*
+ * Draws as clearance_draw does, with the same counts and the same elements in both slices, and reckons the space inside the surface from a reference point
+ * (x, y, z) of the box, in whole units.
+ *
+ * For this alone each coordinate of each point is taken down to a whole sixteenth. The sum over all triangles of the determinant of the three corners, in
+ * their order, taken from the reference, is six times the volume, with its sign. In cubic units the volume is sixfold / 24576.0, since a cubic unit has
+ * 4,096 cubic sixteenths.
+ *
+ * The sum is the same for every reference, and neither it nor any step on the way to it is too large for 64 bits. This is proved.
+ */
+struct clearance_water clearance_volume(const uint8_t *cells, size_t cells_length, const uint8_t *corners, size_t corners_length,
+    float clearance, uint32_t x, uint32_t y, uint32_t z, float *points, size_t points_length, uint32_t *triangles, size_t triangles_length);
 
 #ifdef __cplusplus
 }

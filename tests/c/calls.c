@@ -1,5 +1,5 @@
 /*
- * The three calls from C on a box of one leaf and on one that is split once, with slices of no elements at NULL among them: layouts of the results, every
+ * The calls from C on a box of one leaf and on one that is split once, with slices of no elements at NULL among them: layouts of the results, every
  * field, what is untouched. Ends with status 1 and names the line of the first difference. With an argument it lends a call a byte too many, for valgrind
  * to see.
  */
@@ -81,6 +81,18 @@ static uint8_t *split_corners(float sounding)
     return corners;
 }
 
+/* Whether a volume has this result and this sum. */
+static int is_water(struct clearance_water water, struct clearance_counts counts, int64_t sixfold)
+{
+    return water.number == counts.number && water.points == counts.points && water.triangles == counts.triangles && water.sixfold == sixfold;
+}
+
+/* Whether a volume has this number and nothing else. */
+static int holds_nothing(struct clearance_water water, uint32_t number)
+{
+    return is_water(water, (struct clearance_counts){number, 0, 0}, 0);
+}
+
 /* Tables of no bytes, at NULL. */
 static void empty_tables(const uint8_t *corners)
 {
@@ -91,6 +103,8 @@ static void empty_tables(const uint8_t *corners)
     EXPECT(clearance_enquire(cells, 4, NULL, 0, 0.0f, 0, 0, 0, 0, 1024).number == CLEARANCE_CORNER_TABLE);
     EXPECT(clearance_draw(NULL, 0, NULL, 0, 0.0f, NULL, 0, NULL, 0).number == CLEARANCE_CELL_TABLE);
     EXPECT(clearance_draw(cells, 4, NULL, 0, 0.0f, NULL, 0, NULL, 0).number == CLEARANCE_CORNER_TABLE);
+    EXPECT(holds_nothing(clearance_volume(NULL, 0, NULL, 0, 0.0f, 0, 0, 0, NULL, 0, NULL, 0), CLEARANCE_CELL_TABLE));
+    EXPECT(holds_nothing(clearance_volume(cells, 4, NULL, 0, 0.0f, 1025, 0, 0, NULL, 0, NULL, 0), CLEARANCE_CORNER_TABLE));
 }
 
 /* Whether a reply has this number and nothing else. */
@@ -156,15 +170,34 @@ static void untouched(const struct slices *slices)
     EXPECT(memcmp(slices, &before, sizeof before) == 0);
 }
 
-/* Draws the split box into slices of these lengths, which are refused. */
+/* The volume of the split box from a reference, with slices of these lengths. */
+static struct clearance_water water_from(const uint8_t *corners, float clearance, const uint32_t reference[3], struct slices *slices, size_t points_length,
+    size_t triangles_length)
+{
+    return clearance_volume(split_cells, 36, corners, SPLIT_BYTES, clearance, reference[0], reference[1], reference[2], slices->points, points_length,
+        slices->triangles, triangles_length);
+}
+
+/* Draws the split box into slices of these lengths, which are refused, as its volume is from a reference in the box. */
 static void draw_refused(const uint8_t *corners, float clearance, size_t points_length, size_t triangles_length, struct clearance_counts expected)
 {
+    static const uint32_t reference[3] = {1024, 0, 512};
     struct slices slices;
     fill(&slices);
     struct clearance_counts refused =
         clearance_draw(split_cells, 36, corners, SPLIT_BYTES, clearance, slices.points, points_length, slices.triangles, triangles_length);
     EXPECT(are_counts(refused, expected.number, expected.points, expected.triangles));
+    EXPECT(is_water(water_from(corners, clearance, reference, &slices, points_length, triangles_length), expected, 0));
     untouched(&slices);
+}
+
+/* Whether slices have the drawing of the split box and, behind it, what stood there before. */
+static int are_drawn(const struct slices *slices)
+{
+    struct slices before;
+    fill(&before);
+    return memcmp(slices->points, places, sizeof places) == 0 && memcmp(slices->points + 18, before.points + 18, sizeof(float)) == 0
+        && memcmp(slices->triangles, numbers, sizeof numbers) == 0 && slices->triangles[24] == before.triangles[24];
 }
 
 /* Point and triangle slices of no elements, too few, and more than are needed. */
@@ -175,14 +208,41 @@ static void drawings(const uint8_t *corners)
     draw_refused(corners, 2e6f, POINT_ROOM, TRIANGLE_ROOM, (struct clearance_counts){CLEARANCE_CLEARANCE, 0, 0});
     draw_refused(corners, 0.0f, 17, TRIANGLE_ROOM, (struct clearance_counts){CLEARANCE_POINT_SLICE, 6, 8});
     draw_refused(corners, 0.0f, POINT_ROOM, 23, (struct clearance_counts){CLEARANCE_TRIANGLE_SLICE, 6, 8});
-    struct slices slices, before;
+    struct slices slices;
     fill(&slices);
-    fill(&before);
     struct clearance_counts drawn =
         clearance_draw(split_cells, 36, corners, SPLIT_BYTES, 0.0f, slices.points, POINT_ROOM, slices.triangles, TRIANGLE_ROOM);
-    EXPECT(are_counts(drawn, 0, 6, 8));
-    EXPECT(memcmp(slices.points, places, sizeof places) == 0 && memcmp(slices.points + 18, before.points + 18, sizeof(float)) == 0);
-    EXPECT(memcmp(slices.triangles, numbers, sizeof numbers) == 0 && slices.triangles[24] == before.triangles[24]);
+    EXPECT(are_counts(drawn, 0, 6, 8) && are_drawn(&slices));
+}
+
+/* An octahedron of 768 units across on each axis, 12,288 sixteenths: six times its volume is the product. It is the same from every reference. */
+static void volumes(const uint8_t *corners)
+{
+    static const uint32_t in_box[4][3] = {{0, 0, 0}, {1024, 1024, 1024}, {1024, 0, 512}, {3, 1023, 77}};
+    for (unsigned n = 0; n < 4; n++) {
+        struct slices slices;
+        fill(&slices);
+        struct clearance_water water = water_from(corners, 0.0f, in_box[n], &slices, POINT_ROOM, TRIANGLE_ROOM);
+        EXPECT(is_water(water, (struct clearance_counts){0, 6, 8}, INT64_C(12288) * 12288 * 12288));
+        EXPECT((double)water.sixfold / 24576.0 == 75497472.0);
+        EXPECT(are_drawn(&slices));
+    }
+}
+
+/* References beyond the box on each axis, by 1 and as far as may be: refused before a slice that is too short, after the clearance. */
+static void references_beyond_box(const uint8_t *corners)
+{
+    static const uint32_t beyond[6][3] = {{1025, 0, 0}, {0, 1025, 0}, {0, 0, 1025}, {UINT32_MAX, 1024, 1024}, {1024, UINT32_MAX, 1024},
+        {1024, 1024, UINT32_MAX}};
+    struct slices slices;
+    fill(&slices);
+    for (unsigned n = 0; n < 6; n++) {
+        EXPECT(holds_nothing(water_from(corners, 0.0f, beyond[n], &slices, POINT_ROOM, TRIANGLE_ROOM), CLEARANCE_REFERENCE));
+        EXPECT(holds_nothing(water_from(corners, 0.0f, beyond[n], &slices, 17, TRIANGLE_ROOM), CLEARANCE_REFERENCE));
+        EXPECT(holds_nothing(water_from(corners, 0.0f, beyond[n], &slices, POINT_ROOM, 23), CLEARANCE_REFERENCE));
+        EXPECT(holds_nothing(water_from(corners, 2e6f, beyond[n], &slices, POINT_ROOM, TRIANGLE_ROOM), CLEARANCE_CLEARANCE));
+    }
+    untouched(&slices);
 }
 
 /* One leaf with a wet corner runs out of the box: refused for drawing whatever is lent, and lawful all the same. */
@@ -197,6 +257,8 @@ static void open_at_box(const uint8_t *corners)
     EXPECT(are_counts(refused, CLEARANCE_OPEN_AT_BOX, 0, 0));
     refused = clearance_draw(cells, 4, corners, LEAF_BYTES, 0.0f, slices.points, POINT_ROOM, NULL, 0);
     EXPECT(are_counts(refused, CLEARANCE_OPEN_AT_BOX, 0, 0));
+    EXPECT(holds_nothing(clearance_volume(cells, 4, corners, LEAF_BYTES, 0.0f, 1025, 0, 0, slices.points, POINT_ROOM, slices.triangles, TRIANGLE_ROOM),
+        CLEARANCE_OPEN_AT_BOX));
     untouched(&slices);
     EXPECT(clearance_draw(cells, 4, corners, LEAF_BYTES, -2e6f, NULL, 0, NULL, 0).number == CLEARANCE_CLEARANCE);
 }
@@ -217,6 +279,7 @@ int main(int count, char **arguments)
     uint8_t *dry = leaf_corners(-3.0f);
     uint8_t *centre_wet = split_corners(3.0f);
     EXPECT(sizeof(struct clearance_counts) == 12 && sizeof(struct clearance_reply) == 28);
+    EXPECT(sizeof(struct clearance_water) == 24 && offsetof(struct clearance_water, sixfold) == 16);
     EXPECT(clearance_check(split_cells, 36, centre_wet, SPLIT_BYTES) == 0);
     empty_tables(wet);
     open_at_box(wet);
@@ -226,12 +289,16 @@ int main(int count, char **arguments)
     ground_awash(0.0f, -0.0f);
     ground_awash(-0.0f, -0.0f);
     drawings(centre_wet);
+    volumes(centre_wet);
+    references_beyond_box(centre_wet);
     if (count > 1) {
         trespass(wet);
     }
     struct clearance_reply rising = clearance_enquire(cells, 4, dry, LEAF_BYTES, -2.0f, 1, 0, 0, 0, 1024);
     EXPECT(rising.crossing == 1 && rising.y == 512.0f && rising.wet_end == CLEARANCE_UPPER_END);
     EXPECT(are_counts(clearance_draw(cells, 4, dry, LEAF_BYTES, 0.0f, NULL, 0, NULL, 0), 0, 0, 0));
+    EXPECT(holds_nothing(clearance_volume(cells, 4, dry, LEAF_BYTES, 0.0f, 0, 1024, 0, NULL, 0, NULL, 0), 0));
+    EXPECT(holds_nothing(clearance_volume(cells, 4, dry, LEAF_BYTES, 0.0f, 0, 1025, 0, NULL, 0, NULL, 0), CLEARANCE_REFERENCE));
     free(wet);
     free(dry);
     free(centre_wet);

@@ -1,23 +1,26 @@
-//! The calls of document 01, made and timed.
+//! The calls of the documents, made and timed.
 
 use std::cell::RefCell;
 use std::hint::black_box;
 
+use surveys::Survey;
+
 use crate::subject::Subject;
-use crate::timing::{interleaved, Timing};
+use crate::timing::{in_turns, interleaved, ratio, Timing};
 use crate::ways::{Proved, Rust, Way};
 
-/// A call of document 01.
+/// A call of the documents.
 #[derive(Clone, Copy, Debug)]
 pub enum Call {
     Check,
     Enquire,
     Draw,
+    Volume,
 }
 
 impl Call {
     /// All calls, in the order in which a row has them.
-    pub const ALL: [Call; 3] = [Call::Check, Call::Enquire, Call::Draw];
+    pub const ALL: [Call; 4] = [Call::Check, Call::Enquire, Call::Draw, Call::Volume];
 }
 
 /// Times a call both ways, in so many rounds.
@@ -26,6 +29,16 @@ pub fn time(call: Call, subject: &mut Subject, rounds: usize) -> Timing {
     let proved = || make::<Proved>(call, &mut shared.borrow_mut());
     let rust = || make::<Rust>(call, &mut shared.borrow_mut());
     interleaved(rounds, proved, rust)
+}
+
+/// The proved volume by the proved drawing alone, timed in turns.
+pub fn volume_by_draw(subject: &mut Subject, rounds: usize) -> f64 {
+    let shared = RefCell::new(subject);
+    let [volume, draw] = [Call::Volume, Call::Draw].map(|call| {
+        let shared = &shared;
+        move || make::<Proved>(call, &mut shared.borrow_mut())
+    });
+    ratio(&in_turns(rounds, volume, draw))
 }
 
 /// Makes a call once. Enquiries are about one edge after another.
@@ -38,6 +51,7 @@ pub fn make<W: Way>(call: Call, subject: &mut Subject) {
             _ = black_box(W::enquire(survey, enquiries[0]));
         }
         Call::Draw => _ = black_box(W::draw(survey, point_slice, triangle_slice)),
+        Call::Volume => _ = black_box(W::volume(survey, point_slice, triangle_slice)),
     }
 }
 
@@ -48,13 +62,17 @@ pub fn compare(subject: &Subject) {
     for &enquiry in enquiries {
         assert_eq!(Proved::enquire(survey, enquiry), Rust::enquire(survey, enquiry), "{enquiry:?}");
     }
-    assert_eq!(drawn::<Proved>(subject), drawn::<Rust>(subject));
+    assert_eq!(written(subject, Proved::draw), written(subject, Rust::draw));
+    assert_eq!(written(subject, Proved::volume), written(subject, Rust::volume));
 }
 
-/// What drawing returns and leaves in the slices.
-fn drawn<W: Way>(subject: &Subject) -> ([u32; 3], Vec<f32>, Vec<u32>) {
+/// What a call returns and leaves in the slices.
+fn written<R>(
+    subject: &Subject,
+    call: impl FnOnce(&Survey, &mut [f32], &mut [u32]) -> R,
+) -> (R, Vec<f32>, Vec<u32>) {
     let mut points = vec![0.0; subject.point_slice.len()];
     let mut triangles = vec![0; subject.triangle_slice.len()];
-    let counts = W::draw(&subject.survey, &mut points, &mut triangles);
-    (counts, points, triangles)
+    let result = call(&subject.survey, &mut points, &mut triangles);
+    (result, points, triangles)
 }

@@ -1,6 +1,7 @@
 //! Times the proved calls against the Rust drawing, on surveys of several kinds and sizes, and prints two tables:
-//! the time of each call, and how the time of a leaf grows with the survey; then the highest ratio of each call,
-//! and how the proved drawing of each kind grows. The exit status is 1 if one grows too fast.
+//! the time of each call, with the proved volume by the proved drawing alone, and how the time of a leaf grows with
+//! the survey; then the highest of these ratios, and how the proved drawing of each kind grows. The exit status is 1
+//! if one grows too fast.
 //!
 //!     cargo run --release -p bench [ROUNDS]
 //!
@@ -65,6 +66,7 @@ fn row(kind: Kind, splits: usize, rounds: usize) -> Row {
     let mut subject = Subject::new(surveys::sized::survey(kind, splits, SEED));
     calls::compare(&subject);
     let times = Call::ALL.map(|call| calls::time(call, &mut subject, rounds));
+    let volume_by_draw = calls::volume_by_draw(&mut subject, rounds);
     Row {
         kind,
         splits,
@@ -72,5 +74,6 @@ fn row(kind: Kind, splits: usize, rounds: usize) -> Row {
         points: subject.points(),
         triangles: subject.triangles(),
         times,
+        volume_by_draw,
     }
 }

@@ -15,22 +15,24 @@ pub struct Row {
     pub points: usize,
     pub triangles: usize,
     /// The times of each call.
-    pub times: [Timing; 3],
+    pub times: [Timing; Call::ALL.len()],
+    /// The proved volume by the proved drawing alone.
+    pub volume_by_draw: f64,
 }
 
-/// The time of each call in microseconds, proved and Rust, and their ratio.
+/// The time of each call in microseconds, proved and Rust, and their ratio; then that of the proved volume to the proved drawing.
 pub fn print_times(rows: &[Row]) {
-    println!("time of a call in microseconds: proved, Rust, and proved / Rust\n");
+    println!("time of a call in microseconds: proved, Rust, and proved / Rust; last, proved volume / proved draw\n");
     print!("{:9} {:>6} {:>6} {:>6} {:>9}", "kind", "splits", "leaves", "points", "triangles");
     Call::ALL.into_iter().for_each(|call| print!(" | {:>26}", call_name(call)));
-    println!();
+    println!(" | volume / draw");
     for row in rows {
         print!("{:9} {:6} {:6}", kind_name(row.kind), row.splits, row.leaves);
         print!(" {:6} {:9}", row.points, row.triangles);
         for Timing { proved, rust, ratio } in row.times {
             print!(" | {:9.2} {:9.2} {ratio:6.2}", proved / 1e3, rust / 1e3);
         }
-        println!();
+        println!(" | {:13.2}", row.volume_by_draw);
     }
 }
 
@@ -63,21 +65,26 @@ fn print_leaf_times(of_kind: &[Row], call: Call, way: &str, time: impl Fn(&Timin
     println!();
 }
 
-/// The highest ratio of each call, on large surveys and on those of all sizes.
+/// The highest ratio of each call, and of the proved volume to the proved drawing, on large surveys and on those of all sizes.
 pub fn print_worst(rows: &[Row], sizes: &[usize]) {
     println!();
     for call in Call::ALL {
-        let [large, all] = [&LARGE, sizes].map(|sizes| worst_ratio(rows, call, sizes));
-        let [smaller, larger] = LARGE;
-        print!("{}: proved / Rust is at most {large:.2} at {smaller} and {larger} splits", call_name(call));
-        println!(", and {all:.2} at all sizes");
+        print_highest(rows, sizes, call_name(call), "proved / Rust", |row| row.times[call as usize].ratio);
     }
+    print_highest(rows, sizes, "volume", "proved / proved draw", |row| row.volume_by_draw);
 }
 
-/// The highest ratio of a call over the rows of these sizes.
-fn worst_ratio(rows: &[Row], call: Call, sizes: &[usize]) -> f64 {
-    let of_sizes = rows.iter().filter(|row| sizes.contains(&row.splits));
-    of_sizes.map(|row| row.times[call as usize].ratio).fold(0.0, f64::max)
+fn print_highest(rows: &[Row], sizes: &[usize], call: &str, what: &str, ratio: impl Fn(&Row) -> f64) {
+    let [large, all] = [&LARGE, sizes].map(|sizes| highest(rows, sizes, &ratio));
+    let [smaller, larger] = LARGE;
+    println!(
+        "{call}: {what} is at most {large:.2} at {smaller} and {larger} splits, and {all:.2} at all sizes"
+    );
+}
+
+/// The highest ratio over the rows of these sizes.
+fn highest(rows: &[Row], sizes: &[usize], ratio: impl Fn(&Row) -> f64) -> f64 {
+    rows.iter().filter(|row| sizes.contains(&row.splits)).map(ratio).fold(0.0, f64::max)
 }
 
 /// How the proved drawing of each kind grows, and which grows too fast.
@@ -109,6 +116,7 @@ pub fn call_name(call: Call) -> &'static str {
         Call::Check => "check",
         Call::Enquire => "enquire",
         Call::Draw => "draw",
+        Call::Volume => "volume",
     }
 }
 
@@ -116,24 +124,25 @@ pub fn call_name(call: Call) -> &'static str {
 mod tests {
     use super::*;
 
-    /// A row in which every call has the ratio.
+    /// A row in which every call has the ratio, and the volume twice that by the drawing.
     fn row(kind: Kind, splits: usize, ratio: f64) -> Row {
-        let timing = Timing { proved: ratio, rust: 1.0, ratio };
-        Row { kind, splits, leaves: 1, points: 0, triangles: 0, times: [timing; 3] }
+        let times = Call::ALL.map(|_| Timing { proved: ratio, rust: 1.0, ratio });
+        Row { kind, splits, leaves: 1, points: 0, triangles: 0, times, volume_by_draw: 2.0 * ratio }
     }
 
     #[test]
-    fn the_worst_ratio_is_that_of_the_sizes_asked_for() {
+    fn the_highest_ratio_is_that_of_the_sizes_asked_for() {
         let rows = [
             row(Kind::Ball, 1, 2.5),
             row(Kind::Ball, 64, 1.25),
             row(Kind::Plane, 1, 2.0),
             row(Kind::Plane, 256, 1.5),
         ];
-        for call in Call::ALL {
-            assert_eq!(worst_ratio(&rows, call, &[64]), 1.25);
-            assert_eq!(worst_ratio(&rows, call, &[64, 256]), 1.5);
-            assert_eq!(worst_ratio(&rows, call, &[1, 64, 256]), 2.5);
+        for (sizes, expected) in [(&[64][..], 1.25), (&[64, 256], 1.5), (&[1, 64, 256], 2.5)] {
+            for call in Call::ALL {
+                assert_eq!(highest(&rows, sizes, |row| row.times[call as usize].ratio), expected);
+            }
+            assert_eq!(highest(&rows, sizes, |row| row.volume_by_draw), 2.0 * expected);
         }
     }
 }

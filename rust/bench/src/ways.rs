@@ -1,9 +1,12 @@
-//! The two makers of document 01's calls, with answers that can be compared.
+//! The two makers of the documents' calls, with answers that can be compared.
 
-use clearance::{Refusal, Refused};
+use clearance::{Refusal, Refused, Water};
 use surveys::Survey;
 
 use crate::subject::Enquiry;
+
+/// The point from which volumes are reckoned.
+const REFERENCE: [u32; 3] = [512; 3];
 
 /// What drawing returns: the number, and the counts of points and triangles.
 pub type Counts = [u32; 3];
@@ -11,7 +14,7 @@ pub type Counts = [u32; 3];
 /// The answer of an enquiry: a refusal's number, or the point of an odd edge and whether its upper end is wet.
 pub type Answer = Result<Option<(u32, [f32; 3], bool)>, u32>;
 
-/// A maker of document 01's calls.
+/// A maker of the documents' calls.
 pub trait Way {
     /// Checks a survey.
     fn check(survey: &Survey) -> u32;
@@ -19,6 +22,8 @@ pub trait Way {
     fn enquire(survey: &Survey, enquiry: Enquiry) -> Answer;
     /// Draws into lent slices.
     fn draw(survey: &Survey, points: &mut [f32], triangles: &mut [u32]) -> Counts;
+    /// Draws into lent slices, and reckons six times the volume.
+    fn volume(survey: &Survey, points: &mut [f32], triangles: &mut [u32]) -> (Counts, i128);
 }
 
 /// The proved library.
@@ -42,9 +47,21 @@ impl Way for Proved {
     fn draw(survey: &Survey, points: &mut [f32], triangles: &mut [u32]) -> Counts {
         match clearance::draw(&survey.cells, &survey.corners, survey.clearance, points, triangles) {
             Ok(counts) => [0, counts.points, counts.triangles],
-            Err(Refused { refusal, counts }) => [refusal.number(), counts.points, counts.triangles],
+            Err(refused) => refused_counts(refused),
         }
     }
+
+    fn volume(survey: &Survey, points: &mut [f32], triangles: &mut [u32]) -> (Counts, i128) {
+        let Survey { cells, corners, clearance } = survey;
+        match clearance::volume(cells, corners, *clearance, REFERENCE, points, triangles) {
+            Ok(Water { counts, sixfold }) => ([0, counts.points, counts.triangles], sixfold.into()),
+            Err(refused) => (refused_counts(refused), 0),
+        }
+    }
+}
+
+fn refused_counts(Refused { refusal, counts }: Refused) -> Counts {
+    [refusal.number(), counts.points, counts.triangles]
 }
 
 /// The Rust drawing.
@@ -65,7 +82,16 @@ impl Way for Rust {
     }
 
     fn draw(survey: &Survey, points: &mut [f32], triangles: &mut [u32]) -> Counts {
-        let drawn = drawing::draw(&survey.cells, &survey.corners, survey.clearance, points, triangles);
-        [drawn.number, drawn.points, drawn.triangles]
+        drawn_counts(drawing::draw(&survey.cells, &survey.corners, survey.clearance, points, triangles))
     }
+
+    fn volume(survey: &Survey, points: &mut [f32], triangles: &mut [u32]) -> (Counts, i128) {
+        let Survey { cells, corners, clearance } = survey;
+        let water = drawing::volume(cells, corners, *clearance, REFERENCE, points, triangles);
+        (drawn_counts(water.drawn), water.sixfold)
+    }
+}
+
+fn drawn_counts(drawing::Drawn { number, points, triangles }: drawing::Drawn) -> Counts {
+    [number, points, triangles]
 }

@@ -21,6 +21,15 @@ pub struct Counts {
     pub triangles: u32,
 }
 
+/// What reckoning the volume returns.
+#[repr(C)]
+pub struct Water {
+    pub number: u32,
+    pub points: u32,
+    pub triangles: u32,
+    pub sixfold: i64,
+}
+
 extern "C" {
     fn clearance_check(
         cells: *const u8,
@@ -53,6 +62,21 @@ extern "C" {
         triangles: *mut u32,
         triangles_length: usize,
     ) -> Counts;
+
+    fn clearance_volume(
+        cells: *const u8,
+        cells_length: usize,
+        corners: *const u8,
+        corners_length: usize,
+        clearance: f32,
+        x: u32,
+        y: u32,
+        z: u32,
+        points: *mut f32,
+        points_length: usize,
+        triangles: *mut u32,
+        triangles_length: usize,
+    ) -> Water;
 }
 
 pub fn check(cells: &[u8], corners: &[u8]) -> u32 {
@@ -101,6 +125,33 @@ pub fn draw(
             corners.as_ptr(),
             corners.len(),
             clearance,
+            points.as_mut_ptr(),
+            points.len(),
+            triangles.as_mut_ptr(),
+            triangles.len(),
+        )
+    }
+}
+
+pub fn volume(
+    cells: &[u8],
+    corners: &[u8],
+    clearance: f32,
+    [x, y, z]: [u32; 3],
+    points: &mut [f32],
+    triangles: &mut [u32],
+) -> Water {
+    // SAFETY: as for `draw`.
+    unsafe {
+        clearance_volume(
+            cells.as_ptr(),
+            cells.len(),
+            corners.as_ptr(),
+            corners.len(),
+            clearance,
+            x,
+            y,
+            z,
             points.as_mut_ptr(),
             points.len(),
             triangles.as_mut_ptr(),

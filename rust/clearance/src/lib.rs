@@ -3,8 +3,8 @@
 //! A survey is a cell table (an octree) and a corner table (a sounding at every corner of every cell), both as bytes. At a clearance the surface
 //! between wet and dry corners is drawn as points on the octree's edges and triangles between them. The calls are those of document 01, with what the
 //! requests of document 02 add and change; what they return, and what they write, is proved equal to the documents' rules for every input. What can't
-//! be drawn is refused by one of the twelve [refusals](Refusal). What is drawn is closed: between any two points triangles run one way as often as
-//! the other.
+//! be drawn is refused by one of the thirteen [refusals](Refusal). What is drawn is closed: between any two points triangles run one way as often as
+//! the other. So the space inside is one number, wherever it is reckoned from.
 //!
 //! Nothing is kept between calls and nothing is allocated inside them, so any number of threads may call. A call needs less than 512 KiB of stack.
 //!
@@ -20,7 +20,7 @@
 //! equal.
 //!
 //! ```
-//! use clearance::{draw_to_vec, enquire, Edge, End, Refusal};
+//! use clearance::{draw_to_vec, enquire, volume_to_vec, Edge, End, Refusal};
 //!
 //! // The box is split once: record 1 is the first of its eight children. Of the 27 corners only that in the middle is wet.
 //! let cells: Vec<u8> = [1u32, 0, 0, 0, 0, 0, 0, 0, 0].iter().flat_map(|entry| entry.to_le_bytes()).collect();
@@ -35,6 +35,11 @@
 //! let mesh = draw_to_vec(&cells, &corners, 0.0)?;
 //! assert_eq!(mesh.points[..2], [[256.0, 512.0, 512.0], [768.0, 512.0, 512.0]]);
 //! assert_eq!(mesh.triangles, [[0, 4, 2], [1, 2, 4], [0, 3, 4], [1, 4, 3], [0, 2, 5], [1, 5, 2], [0, 5, 3], [1, 3, 5]]);
+//!
+//! // An octahedron with its corners 256 from the middle holds 4/3 · 256³. Six times this in cubic sixteenths is a whole number.
+//! let (_, water) = volume_to_vec(&cells, &corners, 0.0, [0, 0, 0])?;
+//! assert_eq!(water.sixfold, 8 * 256 * 256 * 256 * 4_096);
+//! assert_eq!(water.cubic_units(), 4.0 / 3.0 * 256.0 * 256.0 * 256.0);
 //!
 //! let along_y = enquire(&cells, &corners, 0.0, 1, [512, 512, 512], 512)?;
 //! assert_eq!(along_y, Edge::Crossing { number: 3, place: [512.0, 768.0, 512.0], wet_end: End::Lower });
@@ -60,7 +65,7 @@ mod exported;
 mod outputs;
 mod refusal;
 
-pub use outputs::{Counts, Edge, End, Mesh, Refused};
+pub use outputs::{Counts, Edge, End, Mesh, Refused, Water};
 pub use refusal::Refusal;
 
 /// Checks a survey by itself. It may pass and yet not be drawn, since at some clearances a corner on an outer face is wet.
@@ -173,11 +178,7 @@ pub fn draw(
 ///
 /// The first refusal of 1 to 8 that applies; else [`Refusal::OpenAtBox`] where a corner on an outer face is wet.
 pub fn count(cells: &[u8], corners: &[u8], clearance: f32) -> Result<Counts, Refusal> {
-    match draw(cells, corners, clearance, &mut [], &mut []) {
-        Ok(counts) => Ok(counts),
-        Err(Refused { refusal: Refusal::PointSlice | Refusal::TriangleSlice, counts }) => Ok(counts),
-        Err(Refused { refusal, .. }) => Err(refusal),
-    }
+    draw(cells, corners, clearance, &mut [], &mut []).or_else(Refused::needed)
 }
 
 /// Draws the surface of a survey at a clearance into vectors that are exactly long enough.
@@ -195,13 +196,89 @@ pub fn count(cells: &[u8], corners: &[u8], clearance: f32) -> Result<Counts, Ref
 ///
 /// The first refusal of 1 to 8 that applies; else [`Refusal::OpenAtBox`] where a corner on an outer face is wet.
 pub fn draw_to_vec(cells: &[u8], corners: &[u8], clearance: f32) -> Result<Mesh, Refusal> {
-    let counts = count(cells, corners, clearance)?;
-    let mut points = vec![[0.0; 3]; counts.points as usize];
-    let mut triangles = vec![[0; 3]; counts.triangles as usize];
-    if !points.is_empty() {
-        draw(cells, corners, clearance, points.as_flattened_mut(), triangles.as_flattened_mut())?;
-    }
-    Ok(Mesh { points, triangles })
+    into_vectors(|points, triangles| draw(cells, corners, clearance, points, triangles)).map(|(mesh, _)| mesh)
+}
+
+/// Draws as [`draw`] does, with the same counts and the same elements in both slices, and reckons the space inside the surface.
+///
+/// Each coordinate of each point is taken down to a whole sixteenth of a unit, for the reckoning alone. The sum, over all triangles, of the determinant of
+/// the three corners taken from the reference point (x, y, z) is six times the volume. The reference is a point of the box in whole units. The sum is the
+/// same for every such point, and 64 bits hold it: both are proved.
+///
+/// [`volume_to_vec`] draws into vectors of its own.
+///
+/// ```
+/// use clearance::{volume, Refusal};
+///
+/// let cells = std::fs::read("../../examples/twin/cells")?;
+/// let corners = std::fs::read("../../examples/twin/corners")?;
+/// let (mut points, mut triangles) = ([0.0; 12], [0; 12]);
+/// let water = volume(&cells, &corners, 0.0, [1_024, 0, 512], &mut points, &mut triangles)?;
+/// // A tetrahedron with sides of 256, 128 and 128 units: a sixth of their product.
+/// assert_eq!(water.sixfold, 256 * 128 * 128 * 4_096);
+/// assert_eq!(water, volume(&cells, &corners, 0.0, [0, 0, 0], &mut points, &mut triangles)?);
+/// assert_eq!(triangles, [0, 1, 3, 0, 2, 1, 0, 3, 2, 1, 2, 3]);
+///
+/// let refused = volume(&cells, &corners, 0.0, [0, 1_025, 0], &mut points, &mut triangles).unwrap_err();
+/// assert_eq!(refused.refusal, Refusal::Reference);
+/// # Ok::<(), Box<dyn std::error::Error>>(())
+/// ```
+///
+/// # Errors
+///
+/// The first refusal of 1 to 8, 12, 13, 9 and 10, in this order, that applies; else as for [`draw`].
+pub fn volume(
+    cells: &[u8],
+    corners: &[u8],
+    clearance: f32,
+    reference: [u32; 3],
+    points: &mut [f32],
+    triangles: &mut [u32],
+) -> Result<Water, Refused> {
+    let exported::Water { number, points, triangles, sixfold } =
+        exported::volume(cells, corners, clearance, reference, points, triangles);
+    debug_assert!(number == 0 || sixfold == 0, "refusal {number} with a sum of {sixfold}");
+    let counts = Counts { points, triangles };
+    passed(number).map(|()| Water { counts, sixfold }).map_err(|refusal| Refused { refusal, counts })
+}
+
+/// Draws the surface into vectors that are exactly long enough, and reckons the space inside, as [`volume`] does.
+///
+/// ```
+/// let cells = std::fs::read("../../examples/twin/cells")?;
+/// let corners = std::fs::read("../../examples/twin/corners")?;
+/// let (mesh, water) = clearance::volume_to_vec(&cells, &corners, 0.0, [0, 0, 0])?;
+/// assert_eq!(mesh, clearance::draw_to_vec(&cells, &corners, 0.0)?);
+/// assert_eq!(water.cubic_units(), 256.0 * 128.0 * 128.0 / 6.0);
+/// # Ok::<(), Box<dyn std::error::Error>>(())
+/// ```
+///
+/// # Errors
+///
+/// The first refusal of 1 to 8, 12 and 13, in this order, that applies.
+pub fn volume_to_vec(
+    cells: &[u8],
+    corners: &[u8],
+    clearance: f32,
+    reference: [u32; 3],
+) -> Result<(Mesh, Water), Refusal> {
+    into_vectors(|points, triangles| volume(cells, corners, clearance, reference, points, triangles))
+}
+
+/// Makes a call that draws with empty slices for its counts, then with vectors that are exactly long enough. An empty drawing is done after the first.
+fn into_vectors<T>(
+    mut call: impl FnMut(&mut [f32], &mut [u32]) -> Result<T, Refused>,
+) -> Result<(Mesh, T), Refusal> {
+    let counts = match call(&mut [], &mut []) {
+        Ok(result) => return Ok((Mesh::default(), result)),
+        Err(refused) => refused.needed()?,
+    };
+    let mut mesh = Mesh {
+        points: vec![[0.0; 3]; counts.points as usize],
+        triangles: vec![[0; 3]; counts.triangles as usize],
+    };
+    let result = call(mesh.points.as_flattened_mut(), mesh.triangles.as_flattened_mut())?;
+    Ok((mesh, result))
 }
 
 /// What a returned number says: 0 that nothing is refused.

@@ -72,6 +72,22 @@ impl Counts {
     }
 }
 
+/// The space inside a surface that was drawn.
+#[derive(Clone, Copy, Debug, Default, PartialEq, Eq, Hash)]
+pub struct Water {
+    /// How many points and triangles the drawing has.
+    pub counts: Counts,
+    /// Six times the volume, in cubic sixteenths of a unit; 0 for an empty drawing.
+    pub sixfold: i64,
+}
+
+impl Water {
+    /// The volume in cubic units: the sum by 6, and by the 4,096 cubic sixteenths of a cubic unit. The whole box has 1,073,741,824 cubic units.
+    pub fn cubic_units(self) -> f64 {
+        self.sixfold as f64 / 24_576.0
+    }
+}
+
 /// A drawing that was refused. Neither lent slice was touched.
 ///
 /// ```
@@ -87,6 +103,16 @@ pub struct Refused {
     pub refusal: Refusal,
     /// With [`Refusal::PointSlice`] and [`Refusal::TriangleSlice`] the counts that the drawing needs; with every other refusal both 0.
     pub counts: Counts,
+}
+
+impl Refused {
+    /// The counts, where there is a drawing and only a slice is too short for it.
+    pub(crate) fn needed(self) -> Result<Counts, Refusal> {
+        match self.refusal {
+            Refusal::PointSlice | Refusal::TriangleSlice => Ok(self.counts),
+            refusal => Err(refusal),
+        }
+    }
 }
 
 impl fmt::Display for Refused {

@@ -2,11 +2,12 @@
 
 use std::fmt;
 
-/// Why a survey, a clearance, a lent slice or an edge is refused. Checks run in rising number, but for 12, which stands between 8 and 9; the first
-/// that applies is given.
+/// Why a survey, a clearance, a lent slice, an edge or a reference point is refused. Checks run in rising number, but for 12 and 13, which stand between
+/// 8 and 9; the first that applies is given.
 ///
 /// So refusals compare by number and not by the order of checks: only [`PointSlice`](Refusal::PointSlice) and
-/// [`TriangleSlice`](Refusal::TriangleSlice) say that there is a drawing, and [`OpenAtBox`](Refusal::OpenAtBox) is above both.
+/// [`TriangleSlice`](Refusal::TriangleSlice) say that there is a drawing, and [`OpenAtBox`](Refusal::OpenAtBox) and [`Reference`](Refusal::Reference) are
+/// above both.
 ///
 /// ```
 /// use clearance::Refusal;
@@ -41,14 +42,16 @@ pub enum Refusal {
     TriangleSlice = 10,
     /// No cell has the edge that was asked about.
     NoEdge = 11,
-    /// The pool runs out of the surveyed box: a corner on an outer face is wet. Only drawing refuses it; such a survey still passes its check and
-    /// serves the enquiry.
+    /// The pool runs out of the surveyed box: a corner on an outer face is wet. Only drawing and the volume refuse it; such a survey still passes its
+    /// check and serves the enquiry.
     OpenAtBox = 12,
+    /// A coordinate of the volume's reference point is above 1,024.
+    Reference = 13,
 }
 
 impl Refusal {
     /// All refusals, by rising number.
-    pub const ALL: [Refusal; 12] = [
+    pub const ALL: [Refusal; 13] = [
         Refusal::CellTable,
         Refusal::CornerTable,
         Refusal::CellEntry,
@@ -61,9 +64,10 @@ impl Refusal {
         Refusal::TriangleSlice,
         Refusal::NoEdge,
         Refusal::OpenAtBox,
+        Refusal::Reference,
     ];
 
-    /// The refusal's number in the documents: 1 to 12.
+    /// The refusal's number in the documents: 1 to 13.
     pub const fn number(self) -> u32 {
         self as u32
     }
@@ -73,7 +77,7 @@ impl Refusal {
     /// ```
     /// use clearance::Refusal;
     ///
-    /// assert_eq!(Refusal::from_number(12), Some(Refusal::OpenAtBox));
+    /// assert_eq!(Refusal::from_number(13), Some(Refusal::Reference));
     /// assert_eq!(Refusal::from_number(0), None);
     /// ```
     pub fn from_number(number: u32) -> Option<Refusal> {
@@ -96,6 +100,7 @@ impl fmt::Display for Refusal {
             Refusal::TriangleSlice => "the triangle slice is too short",
             Refusal::NoEdge => "no cell has this edge",
             Refusal::OpenAtBox => "the pool runs out of the surveyed box (a corner on an outer face is wet)",
+            Refusal::Reference => "a coordinate of the reference point is above 1,024",
         })
     }
 }

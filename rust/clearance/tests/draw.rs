@@ -4,70 +4,37 @@
 //! many there were of each.
 //! `CLEARANCE_SMALL` and `CLEARANCE_LARGE` set how many random surveys there are.
 
+mod comparing;
 mod number;
 
-use std::ops::Range;
-
-use clearance::{Counts, Refusal, Refused};
+use clearance::Refusal;
+use comparing::{drawn, large, refused, small};
 use drawing::Drawn;
 use number::number;
-use surveys::lent::{self, bits};
+use surveys::lent::{bits, lend, Slices};
 use surveys::plain::Plain;
 use surveys::refusals::{self, OPEN_AT_BOX};
 use surveys::tally::Tally;
 use surveys::{closing, damage, document, generate, Survey};
 
-/// So many elements stand before each slice and behind it.
-const GUARD: usize = 5;
-
-/// A drawing into slices of these lengths, with guards around them. Panics if an element was touched that is not of the drawing, or any by a refusal.
-fn drawn(
-    draw: impl FnOnce(&mut [f32], &mut [u32]) -> Drawn,
-    points: usize,
-    triangles: usize,
-    what: &str,
-) -> Slices {
-    let (mut floats, mut numbers) = (lent::floats(points + 2 * GUARD), lent::numbers(triangles + 2 * GUARD));
-    let before = [bits(&floats), numbers.clone()];
-    let (lent_floats, lent_numbers) = (GUARD..GUARD + points, GUARD..GUARD + triangles);
-    let result = draw(&mut floats[lent_floats.clone()], &mut numbers[lent_numbers.clone()]);
-    let count = |count: u32| if result.number == 0 { 3 * count as usize } else { 0 };
-    assert_untouched(&before[0], &bits(&floats), GUARD..GUARD + count(result.points), what);
-    assert_untouched(&before[1], &numbers, GUARD..GUARD + count(result.triangles), what);
-    (result, floats[lent_floats].to_vec(), numbers[lent_numbers].to_vec())
-}
-
-/// Only elements in this range may have changed.
-fn assert_untouched(before: &[u32], after: &[u32], written: Range<usize>, what: &str) {
-    assert_eq!(before[..written.start], after[..written.start], "{what}: elements before the slice");
-    assert_eq!(before[written.end..], after[written.end..], "{what}: elements past the last");
-}
-
-/// A result as the numbers that document 01 has it return.
-fn numbers_of(result: Result<Counts, Refused>) -> Drawn {
-    let Counts { points, triangles } = result.unwrap_or_else(|refused| refused.counts);
-    Drawn { number: number(result), points, triangles }
-}
-
 /// Draws with both drawings into slices of these lengths; result and slices must be the same bits, and no coordinate −0.
-fn assert_same(survey: &Survey, points: usize, triangles: usize, what: &str) -> Slices {
+fn assert_same(survey: &Survey, points: usize, triangles: usize, what: &str) -> Slices<Drawn> {
     let Survey { cells, corners, clearance } = survey;
-    let compiled = |floats: &mut [f32], numbers: &mut [u32]| {
-        numbers_of(clearance::draw(cells, corners, *clearance, floats, numbers))
-    };
-    let independent =
-        |floats: &mut [f32], numbers: &mut [u32]| drawing::draw(cells, corners, *clearance, floats, numbers);
-    let (result, floats, numbers) = drawn(compiled, points, triangles, what);
-    let (expected, expected_floats, expected_numbers) = drawn(independent, points, triangles, what);
+    let (result, floats, numbers) = lend(points, triangles, what, |floats, numbers| {
+        let result = clearance::draw(cells, corners, *clearance, floats, numbers);
+        let result = result.map_or_else(refused, |counts| drawn(0, counts));
+        (result, result.written())
+    });
+    let (expected, expected_floats, expected_numbers) = lend(points, triangles, what, |floats, numbers| {
+        let expected = drawing::draw(cells, corners, *clearance, floats, numbers);
+        (expected, expected.written())
+    });
     assert_eq!(result, expected, "{what}: result");
     assert!(bits(&floats) == bits(&expected_floats), "{what}: points");
     assert!(!bits(&floats).contains(&(-0f32).to_bits()), "{what}: a coordinate is -0");
     assert_eq!(numbers, expected_numbers, "{what}: triangles");
     (result, floats, numbers)
 }
-
-/// A result, and both slices afterwards.
-type Slices = (Drawn, Vec<f32>, Vec<u32>);
 
 /// What was seen of many surveys.
 #[derive(Default)]
@@ -161,18 +128,6 @@ fn assert_vectors(survey: &Survey, floats: &[f32], numbers: &[u32], what: &str) 
     assert_eq!(mesh.triangles.concat(), numbers, "{what}: triangles in a vector");
 }
 
-fn how_many(variable: &str, otherwise: u64) -> u64 {
-    std::env::var(variable).map_or(otherwise, |text| text.parse().expect("a number"))
-}
-
-fn small() -> u64 {
-    how_many("CLEARANCE_SMALL", 5_000)
-}
-
-fn large() -> u64 {
-    how_many("CLEARANCE_LARGE", 1_000)
-}
-
 #[test]
 fn the_surveys_of_the_document() {
     for example in document::drawn() {
@@ -218,18 +173,6 @@ fn one_wet_corner_on_any_face_is_refused() {
     }
 }
 
-/// Six times the space inside a drawing.
-fn six_volumes(survey: &Survey) -> f64 {
-    let Survey { cells, corners, clearance } = survey;
-    let mesh = clearance::draw_to_vec(cells, corners, *clearance).expect("drawn");
-    let determinant = |triangle: &[u32; 3]| {
-        let [a, b, c] = triangle.map(|point| mesh.points[point as usize].map(f64::from));
-        let minor = |i: usize, k: usize| b[i] * c[k] - b[k] * c[i];
-        a[0] * minor(1, 2) + a[1] * minor(2, 0) + a[2] * minor(0, 1)
-    };
-    mesh.triangles.iter().map(determinant).sum()
-}
-
 /// The surface as a whole turns counter-clockwise seen from the dry side, so that the wet space counts as positive. It may be nothing, where every wet
 /// sounding is so little above the clearance that each point is rounded to its wet end. The seeds are other ones than those of every size.
 #[test]
@@ -238,9 +181,10 @@ fn the_wet_space_counts_as_positive() {
     for seed in large()..2 * large() {
         let survey = generate::interior(seed);
         assert_drawn(&survey, &format!("interior, seed {seed}"));
-        let volumes = six_volumes(&survey);
-        assert!(volumes >= -1.0e-3, "interior, seed {seed}: {volumes}");
-        spaces += u64::from(volumes > 1.0);
+        let Survey { cells, corners, clearance } = &survey;
+        let (_, water) = clearance::volume_to_vec(cells, corners, *clearance, [0; 3]).expect("drawn");
+        assert!(water.sixfold >= 0, "interior, seed {seed}: {}", water.sixfold);
+        spaces += u64::from(water.sixfold > 0);
     }
     assert!(spaces > large() / 4, "{spaces} with space inside");
 }

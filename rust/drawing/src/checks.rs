@@ -1,8 +1,8 @@
-//! Checks 1 to 8, in rising number: document 01, "Outputs and refusals". Check 12: document 02, "Basins cut off by
-//! the box".
+//! Checks 1 to 8, in rising number: document 01, "Outputs and refusals". Checks 12 and 13: document 02, "Basins cut off
+//! by the box" and "Water in the pool".
 
 use crate::refusal::Refusal;
-use crate::survey::{corner_at, offset, Cell, Corner, Survey, DEEPEST};
+use crate::survey::{corner_at, length_at, offset, Cell, Corner, Survey, DEEPEST};
 
 const CELL_RECORD: usize = 4;
 const MOST_CELLS: usize = 2_049;
@@ -31,10 +31,16 @@ pub(crate) fn clearance(clearance: f32) -> Result<(), Refusal> {
     refuse_unless(in_range(clearance), Refusal::Clearance)
 }
 
-/// Check 12, of a drawing alone: no corner on an outer face of the box is wet.
+/// Check 12, of a drawing and its volume: no corner on an outer face of the box is wet.
 pub(crate) fn closed_at_box(survey: &Survey, clearance: f32) -> Result<(), Refusal> {
     let is_open = |corner: &Corner| corner.is_on_outer_face() && corner.is_wet(clearance);
     refuse_unless(!survey.corners.iter().any(is_open), Refusal::OpenAtBox)
+}
+
+/// Check 13, of the volume alone: the reference is a point of the box.
+pub(crate) fn reference(point: [u32; 3]) -> Result<(), Refusal> {
+    let in_box = point.iter().all(|&coordinate| coordinate <= u32::from(length_at(0)));
+    refuse_unless(in_box, Refusal::Reference)
 }
 
 fn refuse_unless(lawful: bool, refusal: Refusal) -> Result<(), Refusal> {

@@ -7,7 +7,7 @@
 //!
 //! The modules follow the way of the data: [`check`] reads a survey; edge-trees are built over its cells;
 //! crossing points are numbered on them; face steps and twin steps make the loops of each leaf; loops are cut
-//! into triangles.
+//! into triangles; and the space inside these is reckoned.
 
 mod checks;
 mod crossings;
@@ -17,11 +17,13 @@ mod loops;
 mod outputs;
 mod refusal;
 mod survey;
+mod volume;
 
 use crossings::Crossings;
 use edges::EdgeTrees;
 pub use outputs::{Drawing, Drawn};
 use refusal::Refusal;
+pub use volume::Water;
 
 /// An end of an edge.
 #[derive(Clone, Copy, Debug, PartialEq, Eq)]
@@ -102,4 +104,27 @@ pub fn draw(
 /// Draws the surface into vectors of its own. The refusals are 1 to 8, then 12.
 pub fn draw_to_vec(cells: &[u8], corners: &[u8], clearance: f32) -> Result<Drawing, u32> {
     outputs::drawing(cells, corners, clearance).map_err(Refusal::number)
+}
+
+/// Draws the surface into lent slices as [`draw`] does, and reckons the space inside from a reference point: document
+/// 02, "Water in the pool".
+///
+/// The refusals are 1 to 8, 12, 13, 9 and 10, in this order.
+pub fn volume(
+    cells: &[u8],
+    corners: &[u8],
+    clearance: f32,
+    reference: [u32; 3],
+    points: &mut [f32],
+    triangles: &mut [u32],
+) -> Water {
+    let drawing = outputs::drawing(cells, corners, clearance);
+    match drawing.and_then(|drawing| checks::reference(reference).map(|()| drawing)) {
+        Ok(drawing) => {
+            let drawn = drawing.write(points, triangles);
+            let sixfold = if drawn.number == 0 { drawing.sixfold(reference) } else { 0 };
+            Water { drawn, sixfold }
+        }
+        Err(refusal) => Water { drawn: Drawn::refused(refusal), sixfold: 0 },
+    }
 }

@@ -27,9 +27,17 @@ pub struct Drawn {
 }
 
 impl Drawn {
-    /// Refusals 1 to 8 and 12 give no counts.
+    /// Refusals 1 to 8, 12 and 13 give no counts.
     pub(crate) fn refused(refusal: Refusal) -> Drawn {
         Drawn { number: refusal.number(), points: 0, triangles: 0 }
+    }
+
+    /// How many elements of the point and of the triangle slice were written: none if it was refused.
+    pub fn written(self) -> [usize; 2] {
+        match self.number {
+            0 => [self.points, self.triangles].map(|count| 3 * count as usize),
+            _ => [0; 2],
+        }
     }
 }
 

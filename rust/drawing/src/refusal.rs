@@ -1,7 +1,7 @@
 //! The refusals of document 01's table and document 02's requests, by name.
 
-/// Why a survey, a clearance, a lent slice or an edge is refused. Checks run in rising number, but for 12, which
-/// stands between 8 and 9.
+/// Why a survey, a clearance, a lent slice, an edge or a reference point is refused. Checks run in rising number, but
+/// for 12 and 13, which stand between 8 and 9.
 #[derive(Clone, Copy, Debug, PartialEq, Eq)]
 #[repr(u32)]
 pub(crate) enum Refusal {
@@ -29,6 +29,8 @@ pub(crate) enum Refusal {
     NoEdge = 11,
     /// A corner on an outer face of the box is wet.
     OpenAtBox = 12,
+    /// A coordinate of the reference point is above 1,024.
+    Reference = 13,
 }
 
 impl Refusal {

@@ -1,31 +1,56 @@
-//! Damaged surveys, and surveys with a wet corner on an outer face: each meets the refusal it must, by every call, and
-//! no lent slice is touched.
+//! Damaged surveys, surveys with a wet corner on an outer face, and references beyond the box: each meets the refusal it
+//! must, by every call, and no lent slice is touched.
 
 mod answers;
 
 use answers::{ask, plain_answer};
-use drawing::{check, draw, draw_to_vec, enquire, Drawn, Edge};
-use surveys::lent::{self, bits};
+use drawing::{check, draw, draw_to_vec, enquire, volume, Drawn, Edge, Water};
+use surveys::lent::lend;
 use surveys::plain::Plain;
-use surveys::refusals::{self, OPEN_AT_BOX};
-use surveys::{damage, document, generate, Survey};
+use surveys::refusals::{self, OPEN_AT_BOX, REFERENCE};
+use surveys::{damage, document, generate, references, Survey};
+
+/// Lengths of lent slices: enough for a small drawing, too short for points, for triangles, for both.
+const ROOMS: [[usize; 2]; 4] = [[64, 64], [0, 64], [64, 0], [0, 0]];
 
 /// Draws into slices of these lengths. A refused drawing must leave every bit of both as it was.
-fn drawn(survey: &Survey, point_room: usize, triangle_room: usize, what: &str) -> Drawn {
+fn drawn(survey: &Survey, [point_room, triangle_room]: [usize; 2], what: &str) -> Drawn {
     let Survey { cells, corners, clearance } = survey;
-    let (mut points, mut triangles) = (lent::floats(point_room), lent::numbers(triangle_room));
-    let drawn = draw(cells, corners, *clearance, &mut points, &mut triangles);
-    if drawn.number != 0 {
-        assert_eq!(bits(&points), bits(&lent::floats(point_room)), "{what}: lent points");
-        assert_eq!(triangles, lent::numbers(triangle_room), "{what}: lent triangles");
-    }
+    let (drawn, ..) = lend(point_room, triangle_room, what, |points, triangles| {
+        let drawn = draw(cells, corners, *clearance, points, triangles);
+        (drawn, drawn.written())
+    });
     drawn
+}
+
+/// Reckons the space inside, as [`drawn`] draws.
+fn reckoned(survey: &Survey, reference: [u32; 3], rooms: [usize; 2], what: &str) -> Water {
+    let Survey { cells, corners, clearance } = survey;
+    let (water, ..) = lend(rooms[0], rooms[1], what, |points, triangles| {
+        let water = volume(cells, corners, *clearance, reference, points, triangles);
+        (water, water.drawn.written())
+    });
+    water
+}
+
+/// A refusal without counts.
+fn refused(number: u32) -> Drawn {
+    Drawn { number, points: 0, triangles: 0 }
+}
+
+/// A drawing, and the space inside from a reference in the box and one beyond it, are refused alike by a check before 13.
+fn assert_not_drawn(survey: &Survey, refusal: u32, rooms: [usize; 2], what: &str) {
+    assert_eq!(drawn(survey, rooms, what), refused(refusal), "{what}");
+    for reference in [[1_024, 0, 1_024], [0, 1_025, 0]] {
+        let expected = Water { drawn: refused(refusal), sixfold: 0 };
+        assert_eq!(reckoned(survey, reference, rooms, what), expected, "{what}: from {reference:?}");
+    }
 }
 
 /// Asks every call about a survey that meets this refusal of 1 to 8.
 fn assert_refused(survey: &Survey, refusal: u32, what: &str) {
     let Survey { cells, corners, clearance } = survey;
-    assert_eq!(drawn(survey, 64, 64, what), Drawn { number: refusal, points: 0, triangles: 0 }, "{what}");
+    assert_not_drawn(survey, refusal, [64, 64], what);
     assert_eq!(check(cells, corners), refusals::by_itself(refusal), "{what}: by itself");
     let enquiry = enquire(cells, corners, *clearance, 0, 0, 0, 0, 1024);
     assert_eq!(enquiry, Err(refusal), "{what}: enquiry");
@@ -35,9 +60,8 @@ fn assert_refused(survey: &Survey, refusal: u32, what: &str) {
 /// serve it. Gives back how many of the edges asked about are crossing.
 fn assert_open(survey: &Survey, what: &str) -> usize {
     let Survey { cells, corners, clearance } = survey;
-    for (point_room, triangle_room) in [(64, 64), (0, 64), (64, 0), (0, 0)] {
-        let refused = Drawn { number: OPEN_AT_BOX, points: 0, triangles: 0 };
-        assert_eq!(drawn(survey, point_room, triangle_room, what), refused, "{what}");
+    for rooms in ROOMS {
+        assert_not_drawn(survey, OPEN_AT_BOX, rooms, what);
     }
     assert_eq!(draw_to_vec(cells, corners, *clearance), Err(OPEN_AT_BOX), "{what}: into vectors");
     assert_eq!(check(cells, corners), 0, "{what}: by itself");
@@ -104,7 +128,7 @@ fn corrupted_tables_are_refused_as_the_plain_checks_say() {
         match refusal {
             0 => {
                 assert_eq!(check(&survey.cells, &survey.corners), 0, "{what}");
-                assert!([0, 9, 10].contains(&drawn(&survey, 64, 64, &what).number), "{what}");
+                assert!([0, 9, 10].contains(&drawn(&survey, [64, 64], &what).number), "{what}");
             }
             OPEN_AT_BOX => _ = assert_open(&survey, &what),
             _ => assert_refused(&survey, refusal, &what),
@@ -115,14 +139,35 @@ fn corrupted_tables_are_refused_as_the_plain_checks_say() {
     }
 }
 
+/// Whether there is something to draw or not, and whatever is lent: check 13 comes before 9 and 10.
+#[test]
+fn a_reference_beyond_the_box_is_refused_before_short_slices() {
+    let random = generate::named("small interior", 0..20, |seed| generate::small_interior(seed, 4));
+    let examples = [("the centre wet", document::centre_wet()), ("all dry", document::level(-1.0))];
+    let examples = examples.map(|(name, survey)| (name.to_string(), survey));
+    for (what, survey) in examples.into_iter().chain(random) {
+        for (reference, rooms) in
+            references::beyond_box().into_iter().flat_map(|at| ROOMS.map(|rooms| (at, rooms)))
+        {
+            let expected = Water { drawn: refused(REFERENCE), sixfold: 0 };
+            assert_eq!(reckoned(&survey, reference, rooms, &what), expected, "{what}: from {reference:?}");
+        }
+    }
+}
+
 #[test]
 fn short_slices_are_refused_with_both_counts() {
     let mut with_points = 0;
     for seed in 0..500 {
         let survey = generate::small_interior(seed, 4);
         let what = format!("seed {seed}");
-        let attempt =
-            |point_room: usize, triangle_room: usize| drawn(&survey, point_room, triangle_room, &what);
+        let attempt = |point_room: usize, triangle_room: usize| {
+            let rooms = [point_room, triangle_room];
+            let water = reckoned(&survey, [1_024, 0, 512], rooms, &what);
+            assert!(water.drawn.number == 0 || water.sixfold == 0, "{what}: {water:?}");
+            assert_eq!(water.drawn, drawn(&survey, rooms, &what), "{what}");
+            water.drawn
+        };
         let Drawn { number, points, triangles } = attempt(1 << 12, 1 << 14);
         assert_eq!(number, 0, "{what}");
         let (point_room, triangle_room) = (3 * points as usize, 3 * triangles as usize);

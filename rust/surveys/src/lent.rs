@@ -1,9 +1,40 @@
 //! What stands in slices before they are lent to a drawing: patterns that no drawing writes, each element with its own, so that a touched element
 //! shows. The floats are NaNs, quiet and signalling, of both signs and with many payloads; no comparison of floats tells these apart, so they are
-//! compared by their [`bits`].
+//! compared by their [`bits`]. [`lend`] puts guards around the slices too.
+
+use std::ops::Range;
 
 /// More than any point's number: an edge that carries a point starts at one of 4,872 corners, on one of three axes.
 const NO_POINT: u32 = 3 * 4_872;
+
+/// So many elements stand before each slice that [`lend`] lends, and behind it.
+const GUARD: usize = 5;
+
+/// What a call returned, and the point and the triangle slice afterwards.
+pub type Slices<R> = (R, Vec<f32>, Vec<u32>);
+
+/// Lends slices of these lengths to a call, which also tells how many elements of each it has written, from the front. Stops if any other
+/// element was touched.
+pub fn lend<R>(
+    points: usize,
+    triangles: usize,
+    what: &str,
+    call: impl FnOnce(&mut [f32], &mut [u32]) -> (R, [usize; 2]),
+) -> Slices<R> {
+    let (mut floats, mut numbers) = (floats(points + 2 * GUARD), self::numbers(triangles + 2 * GUARD));
+    let before = [bits(&floats), numbers.clone()];
+    let (lent_floats, lent_numbers) = (GUARD..GUARD + points, GUARD..GUARD + triangles);
+    let (result, written) = call(&mut floats[lent_floats.clone()], &mut numbers[lent_numbers.clone()]);
+    assert_untouched(&before[0], &bits(&floats), GUARD..GUARD + written[0], what);
+    assert_untouched(&before[1], &numbers, GUARD..GUARD + written[1], what);
+    (result, floats[lent_floats].to_vec(), numbers[lent_numbers].to_vec())
+}
+
+/// Only elements in this range may have changed.
+fn assert_untouched(before: &[u32], after: &[u32], written: Range<usize>, what: &str) {
+    assert_eq!(before[..written.start], after[..written.start], "{what}: elements before the slice");
+    assert_eq!(before[written.end..], after[written.end..], "{what}: elements past the last");
+}
 
 /// Floats to lend.
 pub fn floats(count: usize) -> Vec<f32> {
@@ -51,5 +82,34 @@ mod tests {
         let lent = numbers(100_000);
         assert!(lent.iter().all(|&number| number >= 14_616));
         assert!(lent.iter().collect::<BTreeSet<_>>().len() > 90_000);
+    }
+
+    /// Lends slices of 7 and 8 elements to a call that writes so many of each, and says that it has written 3 and 6.
+    fn written(points: usize, triangles: usize) -> Slices<()> {
+        lend(7, 8, "test", |floats, numbers| {
+            floats[..points].fill(0.0);
+            numbers[..triangles].fill(0);
+            ((), [3, 6])
+        })
+    }
+
+    #[test]
+    fn what_is_written_is_given_back() {
+        let ((), points, triangles) = written(3, 6);
+        assert_eq!((points.len(), triangles.len()), (7, 8));
+        assert_eq!((&points[..3], &triangles[..6]), (&[0.0; 3][..], &[0; 6][..]));
+        assert!(points[3..].iter().all(|float| float.is_nan()) && !triangles[6..].contains(&0));
+    }
+
+    #[test]
+    #[should_panic(expected = "test: elements past the last")]
+    fn a_point_too_many_is_seen() {
+        written(4, 6);
+    }
+
+    #[test]
+    #[should_panic(expected = "test: elements past the last")]
+    fn a_triangle_too_many_is_seen() {
+        written(3, 7);
     }
 }

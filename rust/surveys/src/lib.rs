@@ -1,13 +1,15 @@
 //! Surveys to draw, and plain readings of the documents to judge a drawing by.
 //!
 //! - [`document`]: the surveys of document 01 and a few small ones, with what is known of their drawings.
+//! - [`volumes`]: surveys of which the space inside can be said by hand.
 //! - [`generate`]: random lawful surveys, each from one seed.
 //! - [`sized`]: surveys of a given number of splits, a kind for each shape that a drawing may be slow on.
 //! - [`damage`]: random damaged surveys, each with the refusal it must meet.
 //! - [`lent`]: what stands in lent slices before a drawing, to see what it touches.
+//! - [`references`]: points to reckon the space inside a drawing from, in the box and beyond it.
 //! - [`tally`]: how many surveys of a comparison were drawn, and how many refused at the box.
-//! - [`refusals`], [`plain`], [`closing`]: the documents' checks, their edges and points, and "What closing says",
-//!   written for the reader and not for speed, and with nothing shared with any drawing.
+//! - [`refusals`], [`plain`], [`closing`], [`water`]: the documents' checks, their edges and points, "What closing says"
+//!   and the space inside, written for the reader and not for speed, and with nothing shared with any drawing.
 
 pub mod closing;
 pub mod damage;
@@ -18,11 +20,14 @@ pub mod lent;
 mod long_loop;
 pub mod plain;
 pub mod random;
+pub mod references;
 pub mod refusals;
 pub mod sized;
 mod soundings;
 pub mod survey;
 pub mod tally;
 mod trees;
+pub mod volumes;
+pub mod water;
 
 pub use survey::Survey;

@@ -1,17 +1,28 @@
-//! Checks 1 to 8 in the words of document 01, "Outputs and refusals", and check 12 in those of document 02, "Basins
-//! cut off by the box". Nothing here is fast.
+//! Checks 1 to 8 in the words of document 01, "Outputs and refusals"; checks 12 and 13 in those of document 02, "Basins
+//! cut off by the box" and "Water in the pool". Nothing here is fast.
 
 use crate::plain::{corners, entries, octree};
 use crate::survey::{on_outer_face, DEEPEST};
 use crate::Survey;
 
-/// The refusal that drawing alone gives, for a wet corner on an outer face.
+/// The refusal for a wet corner on an outer face, given only where the surface is drawn.
 pub const OPEN_AT_BOX: u32 = 12;
+
+/// The refusal for a coordinate of the reference point, given by the volume alone.
+pub const REFERENCE: u32 = 13;
 
 /// The first refusal of a drawing that the lent slices have no part in: 1 to 8, then 12; 0 if there is none.
 pub fn of_drawing(survey: &Survey) -> u32 {
     match first(survey) {
         0 if is_open_at_box(survey) => OPEN_AT_BOX,
+        number => number,
+    }
+}
+
+/// The first refusal of a volume that the lent slices have no part in: 1 to 8, 12, then 13; 0 if there is none.
+pub fn of_volume(survey: &Survey, reference: [u32; 3]) -> u32 {
+    match of_drawing(survey) {
+        0 if reference.iter().any(|&coordinate| coordinate > 1_024) => REFERENCE,
         number => number,
     }
 }

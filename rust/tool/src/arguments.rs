@@ -38,6 +38,12 @@ pub fn degrees(name: &'static str, otherwise: &'static str) -> Arg {
     option.value_name("DEGREES").default_value(otherwise).value_parser(finite)
 }
 
+/// An option with the three coordinates of a place; 0 0 0 if it is left out.
+pub fn place(name: &'static str) -> Arg {
+    let option = Arg::new(name).long(name).num_args(3).allow_negative_numbers(true);
+    option.value_names(["X", "Y", "Z"]).default_values(["0"; 3]).value_parser(fitting::<u32>)
+}
+
 /// An option without a value, which may stand there more than once.
 pub fn flag(name: &'static str) -> Arg {
     Arg::new(name).long(name).action(ArgAction::SetTrue).overrides_with(name)
@@ -45,6 +51,12 @@ pub fn flag(name: &'static str) -> Arg {
 
 fn fitting<N: FromStr>(text: &str) -> Result<N, &'static str> {
     text.parse().map_err(|_| "is no number that fits")
+}
+
+/// The three coordinates of a place.
+pub fn taken_place(arguments: &ArgMatches, name: &str) -> [u32; 3] {
+    let coordinates: Vec<u32> = arguments.get_many(name).expect("clap has found values").copied().collect();
+    coordinates.try_into().expect("clap has found three")
 }
 
 /// The value of an argument that is required or has a default.
@@ -60,8 +72,9 @@ pub fn words(error: &Error) -> String {
         _ => "",
     };
     let given = value(ContextKind::InvalidArg);
-    // Arguments by their names: clap has <DIR>, [DIR] where it may be left out, and --turn <DEGREES>.
-    let name = given.trim_end_matches(" <DEGREES>").trim_matches(['<', '>', '[', ']']);
+    // Arguments by their names: clap has <DIR>, [DIR] where it may be left out, --turn <DEGREES> and --reference <X> <Y> <Z>.
+    let (name, needs) = given.split_once(" <").unwrap_or((given, ""));
+    let name = name.trim_matches(['<', '>', '[', ']']);
     match error.kind() {
         ErrorKind::MissingSubcommand => "a command is missing".to_owned(),
         ErrorKind::InvalidSubcommand => format!("unknown command {}", value(ContextKind::InvalidSubcommand)),
@@ -69,7 +82,9 @@ pub fn words(error: &Error) -> String {
         ErrorKind::UnknownArgument if given.starts_with('-') => format!("unknown option {given}"),
         ErrorKind::UnknownArgument => format!("one argument too many: {given}"),
         ErrorKind::ArgumentConflict => format!("{name} is there twice"),
-        ErrorKind::InvalidValue => format!("{name} needs a number of degrees"),
+        ErrorKind::InvalidValue | ErrorKind::WrongNumberOfValues => {
+            format!("{name} needs {}", needs.replace(['<', '>'], ""))
+        }
         ErrorKind::ValueValidation => {
             let wrong = error.source().map_or_else(String::new, |wrong| wrong.to_string());
             format!("{name}: {} {wrong}", value(ContextKind::InvalidValue))
@@ -97,11 +112,15 @@ mod tests {
             flag("near"),
             degrees("turn", "30"),
             degrees("tilt", "35"),
+            place("from"),
+            place("to"),
         ];
-        let given = read(&takes, &["--turn", "-30", "here", "--edges", "there", "--edges"]).unwrap();
+        let given = ["--turn", "-30", "--from", "1", "2", "3", "here", "--edges", "there", "--edges"];
+        let given = read(&takes, &given).unwrap();
         assert_eq!(["DIR", "OUT"].map(|name| taken::<OsString>(&given, name)), ["here", "there"]);
         assert_eq!(["edges", "near"].map(|name| given.get_flag(name)), [true, false]);
         assert_eq!(["turn", "tilt"].map(|name| *taken::<f64>(&given, name)), [-30.0, 35.0]);
+        assert_eq!(["from", "to"].map(|name| taken_place(&given, name)), [[1, 2, 3], [0, 0, 0]]);
     }
 
     #[test]
@@ -114,15 +133,20 @@ mod tests {
     #[test]
     fn what_does_not_fit_is_named() {
         let pair = [path("NAME").required(false).requires("DIR"), path("DIR").required(false)];
-        let cases: [(&[Arg], &[&str], &str); 10] = [
+        let cases: [(&[Arg], &[&str], &str); 15] = [
             (&[path("DIR"), path("OUT")], &["here"], "OUT is missing"),
             (&pair, &["here"], "DIR is missing"),
             (&[path("DIR")], &["here", "there"], "one argument too many: there"),
             (&[path("DIR")], &["--tun"], "unknown option --tun"),
-            (&[degrees("turn", "30")], &["--turn"], "--turn needs a number of degrees"),
+            (&[degrees("turn", "30")], &["--turn"], "--turn needs DEGREES"),
             (&[degrees("turn", "30")], &["--turn", "1", "--turn", "2"], "--turn is there twice"),
             (&[degrees("tilt", "35")], &["--tilt", "inf"], "--tilt: inf is no finite number of degrees"),
             (&[degrees("tilt", "35")], &["--tilt", "--turn"], "--tilt: --turn is no number that fits"),
+            (&[place("from")], &["--from"], "--from needs X Y Z"),
+            (&[place("from")], &["--from", "1", "2"], "--from needs X Y Z"),
+            (&[place("from")], &["--from", "1", "2", "3", "4"], "one argument too many: 4"),
+            (&[place("from")], &["--from", "1", "-2", "3"], "--from: -2 is no number that fits"),
+            (&[place("from")], &["--from", "1", "2", "3", "--from", "1", "2", "3"], "--from is there twice"),
             (&[number("X")], &["-1"], "X: -1 is no number that fits"),
             (&[axis("AXIS")], &["w"], "AXIS: w is no number that fits"),
         ];

@@ -7,11 +7,11 @@ use std::process::ExitCode;
 
 use clap::error::ErrorKind as ParseErrorKind;
 use clap::{Arg, ArgMatches};
-use clearance::{Edge, Mesh};
+use clearance::{Edge, Mesh, Water};
 use surveys::plain::Plain;
 use surveys::Survey;
 
-use crate::arguments::{axis, degrees, flag, number, path, taken, words};
+use crate::arguments::{axis, degrees, flag, number, path, place, taken, taken_place, words};
 use crate::examples;
 use crate::facts;
 use crate::failure::{refused, Failure};
@@ -36,6 +36,7 @@ impl From<String> for Printed {
 /// Names of arguments.
 const DIRECTORY: &str = "DIR";
 const AXIS: &str = "AXIS (x, y, z or 0, 1, 2)";
+const REFERENCE: &str = "reference";
 
 struct Command {
     name: &'static str,
@@ -62,7 +63,7 @@ macro_rules! mesh_help {
     };
 }
 
-const COMMANDS: [Command; 8] = [
+const COMMANDS: [Command; 9] = [
     Command {
         name: "check",
         arguments: "DIR",
@@ -100,10 +101,23 @@ const COMMANDS: [Command; 8] = [
         arguments: "DIR",
         summary: "count cells, corners, points and triangles; give the volume",
         help: "Prints the cell records, the greatest depth, the leaves, corners, points and triangles, and the volume inside\n\
-               the surface; the whole box has 1073741824. A pool that runs out of the surveyed box is refused whole, by 12:\n\
-               nothing of it is counted. A missing file is an error.",
+               the surface in cubic units, as 'volume' gives it; the whole box has 1073741824. A pool that runs out of the\n\
+               surveyed box is refused whole, by 12: nothing of it is counted. A missing file is an error.",
         takes: directory_alone,
         run: info,
+    },
+    Command {
+        name: "volume",
+        arguments: "DIR [--reference X Y Z]",
+        summary: "give the volume of the water inside the surface",
+        help: "Prints 'volume' and the space inside the surface in cubic units, to the nearest thousandth, then 'sixfold' and six\n\
+               times the space in cubic sixteenths of a unit (a cubic unit has 4096), a whole number. For both, each coordinate of\n\
+               each point is taken down to a whole sixteenth.\n\
+               --reference X Y Z  reckon from this point of the box, in whole units (0 0 0); every point gives the same\n\
+               A coordinate above 1024 is refused by 13, and a pool that runs out of the surveyed box by 12. A missing file is\n\
+               an error.",
+        takes: || vec![path(DIRECTORY), place(REFERENCE)],
+        run: volume,
     },
     Command {
         name: "obj",
@@ -204,7 +218,7 @@ fn overview() -> String {
          A corner is wet if its sounding is greater than the clearance; ground exactly at the clearance is dry.\n\
          A survey with a wet corner on an outer face of the box is not drawn; 'check' and 'enquire' still take it.\n\
          'clearance COMMAND --help' says more of a command.\n\
-         Exit status: 0 if all is well, 1 if the survey is refused, 2 if the command line or a file is wrong.\n",
+         Exit status: 0 if all is well, 1 if something is refused, 2 if the command line or a file is wrong.\n",
         lines.collect::<String>()
     )
 }
@@ -255,6 +269,12 @@ fn enquire(arguments: &ArgMatches) -> Result<Printed, Failure> {
 
 fn info(arguments: &ArgMatches) -> Result<Printed, Failure> {
     Ok(facts::facts(&files::read(directory(arguments))?)?.to_string().into())
+}
+
+fn volume(arguments: &ArgMatches) -> Result<Printed, Failure> {
+    let survey = files::read(directory(arguments))?;
+    let Water { sixfold, .. } = facts::water(&survey, taken_place(arguments, REFERENCE))?;
+    Ok(format!("volume   {}\nsixfold  {sixfold}\n", facts::cubic_units(sixfold)).into())
 }
 
 fn mesh(arguments: &ArgMatches, format: fn(&Mesh) -> String) -> Result<Printed, Failure> {

@@ -1,8 +1,8 @@
-//! What `info` says of a survey.
+//! What `info` and `volume` say of a survey.
 
 use std::fmt;
 
-use clearance::{Mesh, Refusal};
+use clearance::{Counts, Refusal, Water};
 use surveys::survey::Cube;
 use surveys::{plain, Survey};
 
@@ -19,17 +19,13 @@ pub struct Facts {
     pub corners: usize,
     /// The clearance.
     pub clearance: f32,
-    /// Points of the drawing.
-    pub points: usize,
-    /// Triangles of the drawing.
-    pub triangles: usize,
-    /// The space inside the surface, which is closed as every drawing is.
-    pub volume: f64,
+    /// The drawing's points and triangles, and the space inside.
+    pub water: Water,
 }
 
 /// The facts of a survey that is drawn.
 pub fn facts(survey: &Survey) -> Result<Facts, Refusal> {
-    let mesh = clearance::draw_to_vec(&survey.cells, &survey.corners, survey.clearance)?;
+    let water = water(survey, [0; 3])?;
     let octree = plain::octree(&survey.cells);
     Ok(Facts {
         records: octree.cubes.len(),
@@ -37,22 +33,24 @@ pub fn facts(survey: &Survey) -> Result<Facts, Refusal> {
         leaves: octree.split.iter().filter(|&&split| !split).count(),
         corners: plain::corners(&survey.corners).count(),
         clearance: survey.clearance,
-        points: mesh.points.len(),
-        triangles: mesh.triangles.len(),
-        volume: volume(&mesh),
+        water,
     })
 }
 
-/// The space inside a drawing, by the tetrahedra from the origin to each triangle. The surface is closed, and as a whole it faces the dry side.
-pub fn volume(mesh: &Mesh) -> f64 {
-    let place = |point: u32| mesh.points[point as usize].map(f64::from);
-    let six_times = |triangle: &[u32; 3]| {
-        let [a, b, c] = triangle.map(place);
-        a[0] * (b[1] * c[2] - b[2] * c[1])
-            + a[1] * (b[2] * c[0] - b[0] * c[2])
-            + a[2] * (b[0] * c[1] - b[1] * c[0])
-    };
-    mesh.triangles.iter().map(six_times).sum::<f64>() / 6.0
+/// The space inside a survey's drawing, reckoned from a reference.
+pub fn water(survey: &Survey, reference: [u32; 3]) -> Result<Water, Refusal> {
+    let drawn = clearance::volume_to_vec(&survey.cells, &survey.corners, survey.clearance, reference);
+    drawn.map(|(_, water)| water)
+}
+
+/// A volume in cubic units, to the nearest thousandth and at equal distance the greater. It is reckoned in whole numbers, so that nothing is rounded but
+/// the last digit.
+pub fn cubic_units(sixfold: i64) -> String {
+    const SIXFOLD: i128 = 6 * 4_096;
+    let thousandths = (1_000 * i128::from(sixfold) + SIXFOLD / 2).div_euclid(SIXFOLD);
+    let sign = if thousandths < 0 { "-" } else { "" };
+    let size = thousandths.unsigned_abs();
+    format!("{sign}{}.{:03}", size / 1_000, size % 1_000)
 }
 
 impl fmt::Display for Facts {
@@ -62,11 +60,10 @@ impl fmt::Display for Facts {
         writeln!(out, "leaves     {}", self.leaves)?;
         writeln!(out, "corners    {}", self.corners)?;
         writeln!(out, "clearance  {}", self.clearance)?;
-        writeln!(out, "points     {}", self.points)?;
-        writeln!(out, "triangles  {}", self.triangles)?;
-        // Of no space rounding may leave a trace below 0; adding 0 takes the minus sign away.
-        let thousandths = (1_000.0 * self.volume).round() + 0.0;
-        writeln!(out, "volume     {:.3}", thousandths / 1_000.0)
+        let Water { counts: Counts { points, triangles }, sixfold } = self.water;
+        writeln!(out, "points     {points}")?;
+        writeln!(out, "triangles  {triangles}")?;
+        writeln!(out, "volume     {}", cubic_units(sixfold))
     }
 }
 
@@ -78,21 +75,35 @@ mod tests {
     #[test]
     fn facts_of_the_twin_survey() {
         let facts = facts(&document::twin()).expect("a drawing");
-        let counts = [facts.records, facts.leaves, facts.corners, facts.points, facts.triangles];
-        assert_eq!(counts, [17, 15, 46, 4, 4]);
+        assert_eq!([facts.records, facts.leaves, facts.corners], [17, 15, 46]);
         assert_eq!(facts.depth, 2);
-        // Half the product of two sides of 128, times a third of the side of 256.
-        assert!((facts.volume - 128.0 * 128.0 * 256.0 / 6.0).abs() < 1e-6, "{}", facts.volume);
+        // Half the product of two sides of 128, times a third of the side of 256; six times that in cubic sixteenths.
+        let sixfold = 128 * 128 * 256 * 4_096;
+        assert_eq!(facts.water, Water { counts: Counts { points: 4, triangles: 4 }, sixfold });
     }
 
     #[test]
-    fn no_space_has_no_minus_sign() {
-        let empty = facts(&document::level(-1.0)).expect("a drawing");
-        for volume in [0.0, -0.0, -4.0e-4, 4.0e-4] {
-            let text = Facts { volume, ..empty }.to_string();
-            assert!(text.ends_with("triangles  0\nvolume     0.000\n"), "{text}");
+    fn thousandths_of_cubic_units_are_rounded_once() {
+        // A thousandth is 24.576 of the sum, half of it 12.288; 3,072 is an eighth of a unit, 1,536 a sixteenth, which is 62.5 thousandths.
+        let cases = [
+            (0, "0.000"),
+            (12, "0.000"),
+            (13, "0.001"),
+            (-12, "0.000"),
+            (-13, "-0.001"),
+            (1_536, "0.063"),
+            (-1_536, "-0.062"),
+            (3_072, "0.125"),
+            (24_576, "1.000"),
+            (-24_576, "-1.000"),
+            (24_576 - 13, "0.999"),
+            (24_576 - 12, "1.000"),
+            (i64::MAX, "375299968947541.333"),
+            (i64::MIN, "-375299968947541.333"),
+        ];
+        for (sixfold, text) in cases {
+            assert_eq!(cubic_units(sixfold), text, "{sixfold}");
         }
-        assert!(Facts { volume: 1.0e9 / 3.0, ..empty }.to_string().ends_with("volume     333333333.333\n"));
     }
 
     #[test]

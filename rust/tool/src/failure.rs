@@ -17,7 +17,7 @@ pub enum Failure {
         /// What the system said.
         error: std::io::Error,
     },
-    /// The library refused the survey, the clearance or the edge.
+    /// The library refused the survey, the clearance, the edge or the reference point.
     Refused(Refusal),
 }
 

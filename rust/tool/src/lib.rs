@@ -2,7 +2,7 @@
 //!
 //! - [`commands`]: the table of commands with their help, and [`run`], which picks one; [`arguments`] says what they take, and what is wrong with it.
 //! - [`files`]: a survey as the files of a directory; [`failure`]: what can go wrong, and the exit status.
-//! - [`formats`]: a mesh as document 01's listing, OBJ and PLY; [`facts`]: what `info` says of a survey.
+//! - [`formats`]: a mesh as document 01's listing, OBJ and PLY; [`facts`]: what `info` and `volume` say of a survey.
 //! - [`examples`]: surveys by name. [`shapes`] gives basins as distance functions, [`refine`] sounds them over an octree.
 //! - [`view`], [`shading`], [`raster`], [`picture`], [`svg`]: from a mesh to a picture file.
 

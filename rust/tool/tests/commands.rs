@@ -1,4 +1,4 @@
-//! The commands that answer in words: check, draw, enquire, info, example and the help.
+//! The commands that answer in words: check, draw, enquire, info, volume, example and the help.
 
 mod common;
 
@@ -6,7 +6,7 @@ use common::{printed, root, run, survey, text, Place};
 use surveys::{damage, document, generate};
 
 /// All commands.
-const COMMANDS: [&str; 8] = ["check", "draw", "enquire", "info", "obj", "ply", "render", "example"];
+const COMMANDS: [&str; 9] = ["check", "draw", "enquire", "info", "volume", "obj", "ply", "render", "example"];
 
 fn twin() -> String {
     text(&root().join("examples/twin")).to_owned()
@@ -79,9 +79,10 @@ fn a_missing_file_counts_as_empty_for_draw_only() {
     assert_eq!(run(&["draw", &place.below("nowhere")]).out, "refused 1\n");
     let picture = place.below("picture.png");
     let edge = ["enquire", &directory, "x", "0", "0", "0", "512"];
-    let others: [&[&str]; 6] = [
+    let others: [&[&str]; 7] = [
         &["check", &directory],
         &["info", &directory],
+        &["volume", &directory],
         &["obj", &directory],
         &["ply", &directory],
         &["render", &directory, &picture],
@@ -163,6 +164,32 @@ fn info_counts() {
 }
 
 #[test]
+fn volume_is_the_same_from_every_reference() {
+    // A sixth of 256 by 128 by 128, and the product in cubic sixteenths.
+    let expected = "volume   699050.667\nsixfold  17179869184\n";
+    assert_eq!(printed(&["volume", &twin()]), expected);
+    for reference in [["0", "0", "0"], ["1024", "1024", "1024"], ["1", "1023", "512"]] {
+        assert_eq!(printed(&[&["volume", &twin(), "--reference"], &reference[..]].concat()), expected);
+    }
+    let place = Place::new("volume");
+    let pool = place.example("weir-pool");
+    let whole = printed(&["volume", &pool]);
+    assert_eq!(whole, printed(&["volume", "--reference", "3", "1024", "77", &pool]));
+    let cubic_units = whole.lines().next().and_then(|line| line.strip_prefix("volume   ")).expect("a volume");
+    assert!(printed(&["info", &pool]).ends_with(&format!("volume     {cubic_units}\n")), "{whole}");
+    assert_eq!(printed(&["volume", &place.example("all-dry")]), "volume   0.000\nsixfold  0\n");
+}
+
+#[test]
+fn volume_refuses_a_reference_beyond_the_box() {
+    for reference in [["1025", "0", "0"], ["0", "1025", "0"], ["0", "0", "4294967295"]] {
+        let ran = run(&[&["volume", &twin(), "--reference"], &reference[..]].concat());
+        assert_eq!((ran.status, ran.out.as_str()), (1, ""), "{reference:?}");
+        assert_eq!(ran.errors, "clearance: refused 13: a coordinate of the reference point is above 1,024\n");
+    }
+}
+
+#[test]
 fn a_pool_that_runs_out_of_the_box_is_not_drawn_but_enquired_about() {
     let place = Place::new("open");
     let directory = place.example("open-pool");
@@ -172,8 +199,10 @@ fn a_pool_that_runs_out_of_the_box_is_not_drawn_but_enquired_about() {
     let draw = run(&["draw", &directory]);
     assert_eq!((draw.status, draw.out.as_str(), draw.errors.as_str()), (1, "refused 12\n", words));
     let picture = place.below("picture.png");
-    let others: [&[&str]; 4] = [
+    let others: [&[&str]; 6] = [
         &["info", &directory],
+        &["volume", &directory],
+        &["volume", &directory, "--reference", "0", "0", "1025"],
         &["obj", &directory],
         &["ply", &directory],
         &["render", &directory, &picture],
@@ -220,7 +249,7 @@ fn help_is_there_for_the_whole_and_for_each_command() {
 fn wrong_command_lines_are_named() {
     let place = Place::new("wrong");
     let picture = place.below("picture.gif");
-    let cases: [(&[&str], &str); 10] = [
+    let cases: [(&[&str], &str); 12] = [
         (&[], "a command is missing"),
         (&["sound"], "unknown command sound"),
         (&["help", "sound"], "unknown command sound"),
@@ -229,6 +258,11 @@ fn wrong_command_lines_are_named() {
         (&["info", "one", "--loud"], "unknown option --loud"),
         (&["enquire", "one", "w", "0", "0", "0", "1"], "AXIS (x, y, z or 0, 1, 2): w is no number that fits"),
         (&["enquire", "one", "x", "0", "-1", "0", "1"], "Y: -1 is no number that fits"),
+        (&["volume", "one", "--reference", "0", "0"], "--reference needs X Y Z"),
+        (
+            &["volume", "one", "--reference", "0", "0", "4294967296"],
+            "--reference: 4294967296 is no number that fits",
+        ),
         (&["render", "one", &picture], "a picture's name ends in .png or .svg"),
         (&["example", "ocean", "one"], "no example ocean"),
     ];

@@ -12,14 +12,14 @@ use std::ops::{Deref, DerefMut};
 use std::os::unix::process::ExitStatusExt;
 use std::process::{Command, ExitStatus};
 
-use clearance::{Counts, Edge, Refusal, Refused};
+use clearance::{Counts, Edge, Refusal, Refused, Water};
 use guarded::{Guarded, Side};
 use number::number;
-use surveys::lent::{self, bits};
+use surveys::lent::{self, bits, Slices};
 use surveys::plain::{self, Plain};
 use surveys::refusals::{self, OPEN_AT_BOX};
 use surveys::tally::Tally;
-use surveys::{damage, document, generate, Survey};
+use surveys::{damage, document, generate, water, Survey};
 
 /// Where slices lie.
 #[derive(Clone, Copy, Debug)]
@@ -56,19 +56,50 @@ struct Lent<'a> {
 }
 
 impl Lent<'_> {
-    /// Draws into slices of these lengths. A refused drawing must leave both as they were.
-    fn draw(&self, points: usize, triangles: usize) -> (Result<Counts, Refused>, Vec<f32>) {
+    /// Makes a call with slices of these lengths. If it is refused, it must leave both as they were.
+    fn lend<R>(
+        &self,
+        points: usize,
+        triangles: usize,
+        call: impl FnOnce(&mut [f32], &mut [u32]) -> Result<R, Refused>,
+    ) -> Slices<Result<R, Refused>> {
         let mut floats = self.lender.slice(lent::floats(points));
         let mut numbers = self.lender.slice(lent::numbers(triangles));
-        let result = clearance::draw(&self.cells, &self.corners, self.clearance, &mut floats, &mut numbers);
+        let result = call(&mut floats, &mut numbers);
         if result.is_err() {
             assert_eq!(bits(&floats), bits(&lent::floats(points)), "{}: refused and touched", self.what);
             assert_eq!(numbers[..], lent::numbers(triangles), "{}: refused and touched", self.what);
         }
-        (result, floats.to_vec())
+        (result, floats.to_vec(), numbers.to_vec())
     }
 
-    /// Draws into slices that are exactly long enough, one element too short, and empty. Gives back the points.
+    /// Reckons the space inside, with slices of these lengths.
+    fn reckon(&self, reference: [u32; 3], points: usize, triangles: usize) -> Slices<Result<Water, Refused>> {
+        let Lent { cells, corners, clearance, .. } = self;
+        self.lend(points, triangles, |floats, numbers| {
+            clearance::volume(cells, corners, *clearance, reference, floats, numbers)
+        })
+    }
+
+    /// Draws into slices of these lengths, and reckons the space inside with others alike: result and elements must be the same.
+    fn draw(&self, points: usize, triangles: usize) -> (Result<Counts, Refused>, Vec<f32>) {
+        let Lent { cells, corners, clearance, what, .. } = self;
+        let (result, floats, numbers) = self.lend(points, triangles, |floats, numbers| {
+            clearance::draw(cells, corners, *clearance, floats, numbers)
+        });
+        let (reckoned, same_floats, same_numbers) = self.reckon([1_024, 0, 512], points, triangles);
+        assert_eq!(reckoned.map(|water| water.counts), result, "{what}: volume");
+        assert!(
+            bits(&floats) == bits(&same_floats) && numbers == same_numbers,
+            "{what}: slices of the volume"
+        );
+        if let Ok(Water { sixfold, .. }) = reckoned {
+            assert_eq!(i128::from(sixfold), water::sixfold(&floats, &numbers), "{what}: volume");
+        }
+        (result, floats)
+    }
+
+    /// Draws into slices that are exactly long enough, one element too short, and empty, and from a reference beyond the box. Gives back the points.
     fn assert_drawn(&self) -> Vec<f32> {
         let counts = self.draw(0, 0).0.unwrap_or_else(|refused| refused.counts);
         let (points, triangles) = (counts.point_elements(), counts.triangle_elements());
@@ -77,6 +108,8 @@ impl Lent<'_> {
             assert_eq!(self.draw(points - 1, triangles).0, refused(Refusal::PointSlice), "{}", self.what);
             assert_eq!(self.draw(points, triangles - 1).0, refused(Refusal::TriangleSlice), "{}", self.what);
         }
+        let beyond = Refused { refusal: Refusal::Reference, counts: Counts::default() };
+        assert_eq!(self.reckon([0, 0, 1_025], points, triangles).0, Err(beyond), "{}", self.what);
         let (result, floats) = self.draw(points, triangles);
         assert_eq!(result, Ok(counts), "{}", self.what);
         floats

@@ -31,7 +31,7 @@ fn largest() -> Vec<Survey> {
     kinds.into_iter().chain(most_triangles).collect()
 }
 
-/// Makes every call: the check, enquiries about edges of cells from all over the table, the drawing.
+/// Makes every call: the check, enquiries about edges of cells from all over the table, the drawing, the volume.
 fn make_calls(Survey { cells, corners, clearance }: &Survey) {
     clearance::check(cells, corners).expect("checked");
     for (number, cube) in plain::octree(cells).cubes.iter().enumerate().step_by(20) {
@@ -39,6 +39,7 @@ fn make_calls(Survey { cells, corners, clearance }: &Survey) {
         clearance::enquire(cells, corners, *clearance, number as u32 % 3, low, length).expect("answered");
     }
     clearance::draw_to_vec(cells, corners, *clearance).expect("drawn");
+    clearance::volume_to_vec(cells, corners, *clearance, [1_024, 0, 512]).expect("reckoned");
 }
 
 #[test]
