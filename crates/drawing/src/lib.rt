@@ -41,7 +41,7 @@ fn result(number: u32, n: usize, m: u32) -> Drawn
 
 // The checks of drawing but those of the slices: 1 to 8, then 12. The number of the first that applies, or 0: then the tables hold the cells, their corners and
 // which corners are wet.
-fn refusal(
+pub fn refusal(
     cells: &[u8],
     corners: &[u8],
     clearance: f32,
@@ -61,23 +61,6 @@ fn refusal(
         return 12;
     }
     0
-}
-
-// The same without a table lent: for a call that has a check of its own before those of the slices.
-pub fn check(cells: &[u8], corners: &[u8], clearance: f32) -> u32
-    ensures { λ r. ⌜ r ≡ firstOf (drawingChecks (now (cells .entry)) (now (corners .entry)) clearance) ⌝ }
-{
-    let mut laid = [0u64; 2049];
-    let mut octants = [0u16; 16392];
-    let mut wets = [0u8; 4872];
-    refusal(
-        cells,
-        corners,
-        clearance,
-        &mut laid,
-        &mut octants,
-        &mut wets,
-    )
 }
 
 // Fills the tables of the edges and points of an accepted survey. How many points there are.
@@ -105,7 +88,7 @@ fn fill_tables(
 }
 
 // Draws a drawable survey: its tables, the triangles, and the points where nothing refuses.
-fn draw_drawable(
+pub fn draw_drawable(
     cells: &[u8],
     corners: &[u8],
     clearance: f32,

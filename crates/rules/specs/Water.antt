@@ -48,18 +48,23 @@ sixfold reference points (t ∷ ts) = sixfoldOf reference points t +ℤ sixfold 
 abbrev pub beyondBox : Place → Bool
 beyondBox reference = any (λ a. ltb 1024 (along a reference)) axes
 
+-- the checks of the call but those of the slices, which come after: 13 stands between 12 and 9
+unfoldable pub volumeChecks : List ℕ → List ℕ → Float → Place → List (ℕ × Bool)
+unfolding drawingChecks
+volumeChecks tc tk clearance reference = drawingChecks tc tk clearance ++ (13, beyondBox reference) ∷ []
+
 -- what the call returns, and what the two lent slices hold afterwards
 pub record Reckoning : Type 0 where
   pub result : Water
   pub points : List Float
   pub triangles : List ℕ
 
--- The call, of what the two slices hold before. All is as for a drawing, but that 13 comes after 12 and before 9, counts 0 and 0; the number of sixteenths is
--- zero for a refusal.
+-- The call, of what the two slices hold before. All is as for a drawing, but for 13, which has the counts 0 and 0; and six times the volume, which is zero for
+-- a refusal.
 unfoldable pub volume : List ℕ → List ℕ → Float → Place → List Float → List ℕ → Reckoning
-unfolding drawingChecks surveyOf pointEdges pointFloats allTriangles draw
+unfolding volumeChecks surveyOf pointEdges pointFloats allTriangles draw
 volume tc tk clearance reference ps ts =
-    let number = firstOf (drawingChecks tc tk clearance ++ (13, beyondBox reference) ∷ sliceChecks tc tk clearance ps ts) in
+    let number = firstOf (volumeChecks tc tk clearance reference ++ sliceChecks tc tk clearance ps ts) in
     let drawn = draw tc tk clearance ps ts in
     let total = sixfold reference (pointFloats tc tk clearance) (allTriangles (surveyOf tc tk clearance)) in
     let beyond = eqb number 13 in

@@ -1,24 +1,41 @@
--- The ways that the call for the volume goes, by the rules: refused for its reference, or as a drawing.
+-- The ways that the call for the volume goes, by the rules: refused before the slices are looked at, or as a drawing.
 -- Assumes nothing.
 use Prim.Native.Nat.{ℕ}
 use mathlib.Core.Path.{_≡_, refl, sym, ap, _∙_}
 use mathlib.Core.Bool.{Bool, true, false, cond}
 use mathlib.Core.List.{List, [], _∷_, _++_}
+use native.Mathlib.Omega.{arith}
 use lib.Dec.{eqb}
 use lib.IntN.{ℤ, pos}
 use lib.Ieee.{Float}
-use borrow.Author.Tests.{ne-eqb}
+use borrow.Author.Tests.{eq-eqb, ne-eqb}
 use Rattle.base.specs.Grid.{Place}
-use Rattle.base.proofs.Tests.{eq→eqb, not-both}
 use Rattle.rules.specs.Steps.{allTriangles}
-use Rattle.rules.specs.Outputs.{firstOf, surveyChecks, checks, drawingChecks, surveyOf, pointFloats, sliceChecks, Drawing, draw}
-use Rattle.rules.specs.Water.{sixfold, beyondBox, Reckoning, volume}
+use Rattle.rules.specs.Outputs.{firstOf, surveyChecks, checks, drawingChecks, drawable, surveyOf, pointFloats, sliceChecks, Drawing, draw}
+use Rattle.rules.specs.Water.{sixfold, beyondBox, volumeChecks, Reckoning, volume}
 use Rattle.rules.specs.declared.Drawn.{Drawn}
 use Rattle.rules.specs.declared.Water.{Water}
-use Rattle.octree.proofs.Accepted.{first-append, first-unlike}
+use Rattle.octree.proofs.Accepted.{first-append, first-none, first-unlike, refused-before, refused-last, refused-never}
 use Rattle.drawing.specs.Draws.{lent, Draws}
 use Rattle.drawing.proofs.Outcome.{refused}
 use Rattle.volume.specs.Reckons.{Reckons}
+
+-- ---- the checks of drawing, and then 13
+
+module _ (tc tk : List ℕ) (clearance : Float) (reference : Place) (n : ℕ) (n-is : n ≡ firstOf (drawingChecks tc tk clearance)) where
+  pub refused-earlier : (n ≡ 0 → ⊥) → n ≡ firstOf (volumeChecks tc tk clearance reference)
+  unfolding volumeChecks
+  refused-earlier = refused-before (drawingChecks tc tk clearance) (unfold drawingChecks checks surveyChecks in tt) 13 (beyondBox reference) n n-is
+
+  pub refused-beyond : n ≡ 0 → beyondBox reference ≡ true → 13 ≡ firstOf (volumeChecks tc tk clearance reference)
+  unfolding volumeChecks
+  refused-beyond = refused-last (drawingChecks tc tk clearance) (unfold drawingChecks checks surveyChecks in tt) 13 (beyondBox reference) n n-is
+
+  pub refused-not : n ≡ 0 → beyondBox reference ≡ false → 0 ≡ firstOf (volumeChecks tc tk clearance reference)
+  unfolding volumeChecks
+  refused-not = refused-never (drawingChecks tc tk clearance) (unfold drawingChecks checks surveyChecks in tt) 13 (beyondBox reference) n n-is
+
+-- ---- what the call gives
 
 -- a drawing's result with a volume
 abbrev pub withVolume : Drawn → ℤ → Water
@@ -41,17 +58,47 @@ module _ (tc tk : List ℕ) (clearance : Float) (reference : Place) (ps : List F
     triangles = cond beyond ts (d .triangles);
   }
 
-  -- ---- a reference of the box: as for a drawing
+  abbrev first : ℕ
+  first = firstOf (volumeChecks tc tk clearance reference)
 
-  module _ (inside : beyondBox reference ≡ false) where
-    as-drawn : firstOf (drawingChecks tc tk clearance ++ (13, beyondBox reference) ∷ sliceChecks tc tk clearance ps ts) ≡ draw tc tk clearance ps ts .result .number
+  by-number : volume tc tk clearance reference ps ts ≡ let n = firstOf (volumeChecks tc tk clearance reference ++ sliceChecks tc tk clearance ps ts) in
+      given (draw tc tk clearance ps ts) n (eqb n 13) (eqb n 0)
+  unfolding volume
+  by-number = refl
+
+  -- the checks before the slices', and then those
+  in-order : firstOf (volumeChecks tc tk clearance reference ++ sliceChecks tc tk clearance ps ts)
+      ≡ cond (eqb (firstOf (volumeChecks tc tk clearance reference)) 0) (firstOf (sliceChecks tc tk clearance ps ts))
+      (firstOf (volumeChecks tc tk clearance reference))
+  in-order =
+      first-append (volumeChecks tc tk clearance reference) (sliceChecks tc tk clearance ps ts) (unfold volumeChecks drawingChecks checks surveyChecks in tt)
+
+  -- ---- no check before the slices' applies: as for a drawing
+
+  module _ (n : ℕ) (is : n ≡ firstOf (volumeChecks tc tk clearance reference)) (zero : n ≡ 0) where
+    both : (firstOf (drawingChecks tc tk clearance) ≡ 0) × (firstOf ((13, beyondBox reference) ∷ []) ≡ 0)
+    both =
+        first-none (drawingChecks tc tk clearance) ((13, beyondBox reference) ∷ []) (unfold drawingChecks checks surveyChecks in tt)
+        (unfold volumeChecks in sym is ∙ zero)
+
+    pub can-draw : drawable tc tk clearance ≡ true
+    unfolding drawable
+    can-draw = eq-eqb (firstOf (drawingChecks tc tk clearance)) 0 (both .0)
+
+    pub inside : beyondBox reference ≡ false
+    inside = go (beyondBox reference) refl (both .1)
+      where
+        go : (b : Bool) → beyondBox reference ≡ b → _≡_ {A = ℕ} (cond b 13 0) 0 → beyondBox reference ≡ false
+        go true e h = absurd (omega (arith, h))
+        go false e h = e
+
+    as-drawn : firstOf (volumeChecks tc tk clearance reference ++ sliceChecks tc tk clearance ps ts) ≡ draw tc tk clearance ps ts .result .number
     unfolding draw
     as-drawn =
-        let cs = drawingChecks tc tk clearance in
-        let slices = sliceChecks tc tk clearance ps ts in
-        first-append cs ((13, beyondBox reference) ∷ slices) (unfold drawingChecks checks surveyChecks in tt)
-        ∙ ap (λ (b : Bool). cond (eqb (firstOf cs) 0) (cond b 13 (firstOf slices)) (firstOf cs)) inside
-        ∙ sym (first-append cs slices (unfold drawingChecks checks surveyChecks in tt))
+        let slices = firstOf (sliceChecks tc tk clearance ps ts) in
+        in-order ∙ ap (λ (b : Bool). cond b slices first) (eq-eqb first 0 (sym is ∙ zero))
+        ∙ sym (first-append (drawingChecks tc tk clearance) (sliceChecks tc tk clearance ps ts) (unfold drawingChecks checks surveyChecks in tt)
+        ∙ ap (λ (b : Bool). cond b slices (firstOf (drawingChecks tc tk clearance))) (eq-eqb (firstOf (drawingChecks tc tk clearance)) 0 (both .0)))
 
     never : eqb (draw tc tk clearance ps ts .result .number) 13 ≡ false
     unfolding draw drawingChecks checks surveyChecks
@@ -59,10 +106,9 @@ module _ (tc tk : List ℕ) (clearance : Float) (reference : Place) (ps : List F
 
     within : volume tc tk clearance reference ps ts ≡ given (draw tc tk clearance ps ts) (draw tc tk clearance ps ts .result .number) false
         (eqb (draw tc tk clearance ps ts .result .number) 0)
-    unfolding volume
     within =
         let d = draw tc tk clearance ps ts in
-        (λ i. given d (as-drawn i) (eqb (as-drawn i) 13) (eqb (as-drawn i) 0))
+        by-number ∙ (λ i. given d (as-drawn i) (eqb (as-drawn i) 13) (eqb (as-drawn i) 0))
         ∙ ap (λ (b : Bool). given d (d .result .number) b (eqb (d .result .number) 0)) never
 
     -- what was drawn, with the volume that goes with its number
@@ -78,32 +124,19 @@ module _ (tc tk : List ℕ) (clearance : Float) (reference : Place) (ps : List F
           triangles-are = drew .triangles-are ∙ sym (ap (λ (w : Reckoning). w .triangles) w);
         }
 
-  -- ---- a reference beyond the box
+  -- ---- one does: nothing is written
 
-  module _ (outside : beyondBox reference ≡ true) (n : ℕ) (is : n ≡ firstOf (drawingChecks tc tk clearance ++ (13, true) ∷ [])) where
-    abbrev first : ℕ
-    first = firstOf (drawingChecks tc tk clearance)
-
-    n-is : n ≡ cond (eqb (firstOf (drawingChecks tc tk clearance)) 0) 13 (firstOf (drawingChecks tc tk clearance))
-    n-is = is ∙ first-append (drawingChecks tc tk clearance) ((13, true) ∷ []) (unfold drawingChecks checks surveyChecks in tt)
-
-    same-number : firstOf (drawingChecks tc tk clearance ++ (13, beyondBox reference) ∷ sliceChecks tc tk clearance ps ts) ≡ n
+  module _ (n : ℕ) (is : n ≡ firstOf (volumeChecks tc tk clearance reference)) (some : n ≡ 0 → ⊥) where
+    same-number : firstOf (volumeChecks tc tk clearance reference ++ sliceChecks tc tk clearance ps ts) ≡ n
     same-number =
-        let slices = sliceChecks tc tk clearance ps ts in
-        first-append (drawingChecks tc tk clearance) ((13, beyondBox reference) ∷ slices) (unfold drawingChecks checks surveyChecks in tt)
-        ∙ ap (λ (b : Bool). cond (eqb first 0) (cond b 13 (firstOf slices)) first) outside ∙ sym n-is
+        in-order ∙ ap (λ (b : Bool). cond b (firstOf (sliceChecks tc tk clearance ps ts)) first) (ne-eqb first 0 (λ z. some (is ∙ z))) ∙ sym is
 
-    -- what is given then
-    abbrev nothing : ℕ → Reckoning
-    nothing k = record { result = record { number = k; points = 0; triangles = 0; sixfold = pos 0 }; points = ps; triangles = ts }
+    abbrev nothing : Reckoning
+    nothing = record { result = record { number = n; points = 0; triangles = 0; sixfold = pos 0 }; points = ps; triangles = ts }
 
-    by : volume tc tk clearance reference ps ts ≡ given (draw tc tk clearance ps ts) n (eqb n 13) (eqb n 0)
-    unfolding volume
-    by = λ i. given (draw tc tk clearance ps ts) (same-number i) (eqb (same-number i) 13) (eqb (same-number i) 0)
-
-    -- refused by a check before 13: as a drawing that is refused, whether or not its number is 13
+    -- a check before 13: as a drawing that is refused
     earlier : (b : Bool) → Draws (lent tc tk clearance ps ts) (record { number = n; points = 0; triangles = 0 }) ps ts
-        → given (draw tc tk clearance ps ts) n b false ≡ nothing n
+        → given (draw tc tk clearance ps ts) n b false ≡ nothing
     earlier true drew = refl
     earlier false drew = sym (λ i. record {
       result = record { number = n; points = drew .result-is i .points; triangles = drew .result-is i .triangles; sixfold = pos 0 };
@@ -111,15 +144,25 @@ module _ (tc tk : List ℕ) (clearance : Float) (reference : Place) (ps : List F
       triangles = drew .triangles-are i;
     })
 
-    nothing-given : volume tc tk clearance reference ps ts ≡ nothing n
-    nothing-given = by ∙ go (eqb first 0) refl
+    -- by the first number of drawing's checks, and whether 13 applies
+    by-checks : (k : ℕ) (b : Bool) → k ≡ firstOf (drawingChecks tc tk clearance) → n ≡ cond (eqb k 0) (cond b 13 0) k
+        → given (draw tc tk clearance ps ts) n (eqb n 13) false ≡ nothing
+    by-checks k b k-is e = go (eqb k 0) refl b e
       where
-        go : (t : Bool) → eqb first 0 ≡ t → given (draw tc tk clearance ps ts) n (eqb n 13) (eqb n 0) ≡ nothing n
-        go true e = let thirteen : n ≡ 13 = n-is ∙ ap (λ (b : Bool). cond b 13 first) e in rw thirteen refl
-        go false e =
-            let last : n ≡ first = n-is ∙ ap (λ (b : Bool). cond b 13 first) e in
-            let some : n ≡ 0 → ⊥ = λ z. not-both (eq→eqb first 0 (sym last ∙ z)) e in
-            ap (given (draw tc tk clearance ps ts) n (eqb n 13)) (ne-eqb n 0 some) ∙ earlier (eqb n 13) (refused tc tk clearance ps ts n last some)
+        go : (t : Bool) → eqb k 0 ≡ t → (b : Bool) → n ≡ cond t (cond b 13 0) k → given (draw tc tk clearance ps ts) n (eqb n 13) false ≡ nothing
+        go true z true e = ap (λ (b : Bool). given (draw tc tk clearance ps ts) n b false) (eq-eqb n 13 e)
+        go true z false e = absurd (some e)
+        go false z b e = earlier (eqb n 13) (refused tc tk clearance ps ts n (e ∙ k-is) some)
+
+    nothing-given : volume tc tk clearance reference ps ts ≡ nothing
+    nothing-given =
+        by-number ∙ (λ i. given (draw tc tk clearance ps ts) (same-number i) (eqb (same-number i) 13) (eqb (same-number i) 0))
+        ∙ ap (given (draw tc tk clearance ps ts) n (eqb n 13)) (ne-eqb n 0 some)
+        ∙ by-checks (firstOf (drawingChecks tc tk clearance)) (beyondBox reference) refl (is ∙ parts)
+      where
+        parts : firstOf (volumeChecks tc tk clearance reference)
+            ≡ cond (eqb (firstOf (drawingChecks tc tk clearance)) 0) (cond (beyondBox reference) 13 0) (firstOf (drawingChecks tc tk clearance))
+        parts = unfold volumeChecks in first-append (drawingChecks tc tk clearance) ((13, beyondBox reference) ∷ []) (unfold drawingChecks checks surveyChecks in tt)
 
     pub turned-away : Reckons (lent tc tk clearance ps ts) reference (record { number = n; points = 0; triangles = 0; sixfold = pos 0 }) ps ts
     turned-away = record {

@@ -3,8 +3,7 @@
 use Prim.Native.Nat.{ℕ}
 use mathlib.Core.Path.{_≡_, refl, sym, ap, _∙_, subst}
 use mathlib.Core.Bool.{true, false, not}
-use mathlib.Core.List.{List, [], _∷_, _++_}
-use native.Mathlib.Omega.{arith}
+use mathlib.Core.List.{List}
 use lib.Dec.{T}
 use lib.IntN.{ℤ, pos}
 use lib.ListN.{length}
@@ -14,19 +13,19 @@ use Rattle.base.specs.Grid.{Place}
 use Rattle.base.proofs.Tests.{→false}
 use Rattle.rules.specs.Edges.{pointEdges}
 use Rattle.rules.specs.Steps.{allTriangles}
-use Rattle.rules.specs.Outputs.{firstOf, surveyChecks, checks, accepted, drawingChecks, drawable, surveyOf, pointFloats, Drawing, draw}
+use Rattle.rules.specs.Outputs.{firstOf, accepted, drawable, surveyOf, pointFloats, Drawing, draw}
 use Rattle.rules.specs.Closing.{trianglesIn, ClosedIn}
-use Rattle.rules.specs.Water.{sixfold, beyondBox, AnyReference}
+use Rattle.rules.specs.Water.{sixfold, beyondBox, volumeChecks, AnyReference}
 use Rattle.rules.specs.declared.Drawn.{Drawn}
 use Rattle.rules.specs.declared.Water.{Water}
-use Rattle.octree.proofs.Accepted.{first-none, drawable→}
+use Rattle.octree.proofs.Accepted.{drawable→}
 use Rattle.closing.proofs.Closing.{closes}
 use Rattle.water.specs.Corners.{Summable}
 use Rattle.drawing.specs.Draws.{lent, Draws}
 use Rattle.drawing.proofs.Drawn.{whole, drawn-is, drawn-fits}
 use Rattle.drawing.proofs.Outcome.{drawn-closed}
 use Rattle.volume.specs.Reckons.{drawnOf, Reckons}
-use Rattle.volume.proofs.Outcome.{withVolume, total, reckoned, turned-away}
+use Rattle.volume.proofs.Outcome.{withVolume, total, inside, reckoned, turned-away}
 use Rattle.volume.proofs.References.{same-sum}
 use Rattle.volume.proofs.Slices.{all-below, summable, slices-sum}
 
@@ -37,12 +36,6 @@ any-reference tc tk clearance ok p q _ _ =
     let s = surveyOf tc tk clearance in
     same-sum (pointFloats tc tk clearance) (length (pointEdges s)) (allTriangles s) (all-below tc tk clearance (drawable→ tc tk clearance ok .0))
     (closes tc tk clearance ok .balance) p q
-
--- where 13 applies, the number is not 0
-refuses : (tc tk : List ℕ) (clearance : Float) (n : ℕ) → n ≡ firstOf (drawingChecks tc tk clearance ++ (13, true) ∷ []) → n ≡ 0 → ⊥
-refuses tc tk clearance n is zero =
-    let none = first-none (drawingChecks tc tk clearance) ((13, true) ∷ []) (unfold drawingChecks checks surveyChecks in tt) (sym is ∙ zero) .1 in
-    omega (arith, none)
 
 -- what the call promises of its result and the slices
 abbrev pub Promised : List ℕ → List ℕ → Float → List Float → List ℕ → Place → List Float → List ℕ → Water → Type 0
@@ -84,25 +77,27 @@ module _ (tc tk : List ℕ) (clearance : Float) (ps : List Float) (ts : List ℕ
         → v ≡ sixfold q (pointFloats tc tk clearance) (allTriangles (surveyOf tc tk clearance))
     from-any q own box = total-is ∙ unfold AnyReference in any-reference tc tk clearance can-draw reference q own box
 
-    pub drawn-promised : beyondBox reference ≡ false → Promised tc tk clearance ps ts reference points triangles (withVolume r v)
-    drawn-promised inside =
-        let reckons = reckoned tc tk clearance reference ps ts inside r points triangles v true drew (eq-eqb (r .number) 0 zero) total-is in
-        (reckons, (drawn-closed tc tk clearance ps ts r points triangles drew, (λ z q box. from-any q (→false inside) box)))
+    pub drawn-promised : (n : ℕ) → n ≡ firstOf (volumeChecks tc tk clearance reference) → n ≡ 0
+        → Promised tc tk clearance ps ts reference points triangles (withVolume r v)
+    drawn-promised n n-is n-zero =
+        let reckons = reckoned tc tk clearance reference ps ts n n-is n-zero r points triangles v true drew (eq-eqb (r .number) 0 zero) total-is in
+        let own = →false (inside tc tk clearance reference ps ts n n-is n-zero) in
+        (reckons, (drawn-closed tc tk clearance ps ts r points triangles drew, (λ z q box. from-any q own box)))
 
 -- ---- what was not
 
--- a drawing that is refused
-pub refused-promised : (tc tk : List ℕ) (clearance : Float) (ps : List Float) (ts : List ℕ) (reference : Place) (r : Drawn) (points : List Float)
-    (triangles : List ℕ) → Draws (lent tc tk clearance ps ts) r points triangles → (r .number ≡ 0 → ⊥) → beyondBox reference ≡ false
+-- the slices are too short
+pub short-promised : (tc tk : List ℕ) (clearance : Float) (ps : List Float) (ts : List ℕ) (reference : Place) (n : ℕ)
+    → n ≡ firstOf (volumeChecks tc tk clearance reference) → n ≡ 0 → (r : Drawn) (points : List Float) (triangles : List ℕ)
+    → Draws (lent tc tk clearance ps ts) r points triangles → (r .number ≡ 0 → ⊥)
     → Promised tc tk clearance ps ts reference points triangles (withVolume r (pos 0))
-refused-promised tc tk clearance ps ts reference r points triangles drew some inside =
-    let reckons = reckoned tc tk clearance reference ps ts inside r points triangles (pos 0) false drew (ne-eqb (r .number) 0 some) refl in
+short-promised tc tk clearance ps ts reference n is zero r points triangles drew some =
+    let reckons = reckoned tc tk clearance reference ps ts n is zero r points triangles (pos 0) false drew (ne-eqb (r .number) 0 some) refl in
     (reckons, ((λ z. absurd (some z)), (λ z. absurd (some z))))
 
--- a reference beyond the box
-pub beyond-promised : (tc tk : List ℕ) (clearance : Float) (ps : List Float) (ts : List ℕ) (reference : Place) (n : ℕ) → beyondBox reference ≡ true
-    → n ≡ firstOf (drawingChecks tc tk clearance ++ (13, true) ∷ [])
+-- a check before the slices' applies
+pub refused-promised : (tc tk : List ℕ) (clearance : Float) (ps : List Float) (ts : List ℕ) (reference : Place) (n : ℕ)
+    → n ≡ firstOf (volumeChecks tc tk clearance reference) → (n ≡ 0 → ⊥)
     → Promised tc tk clearance ps ts reference ps ts (record { number = n; points = 0; triangles = 0; sixfold = pos 0 })
-beyond-promised tc tk clearance ps ts reference n outside is =
-    let never = refuses tc tk clearance n is in
-    (turned-away tc tk clearance reference ps ts outside n is, ((λ z. absurd (never z)), (λ z. absurd (never z))))
+refused-promised tc tk clearance ps ts reference n is some =
+    (turned-away tc tk clearance reference ps ts n is some, ((λ z. absurd (some z)), (λ z. absurd (some z))))

@@ -1,14 +1,14 @@
 // The call for the volume: a drawing, with check 13 before those of the slices, and the sum over what then stands in them. Uses drawing and water.
 ghost use mathlib.Core.Path.{_≡_};
-ghost use mathlib.Core.Bool.{true, not};
-ghost use mathlib.Core.List.{[], _∷_, _++_};
+ghost use mathlib.Core.Bool.{not};
 ghost use lib.Dec.{T};
-ghost use lib.IntN.{pos};
+ghost use lib.ListN.{length};
 ghost use Rattle.base.specs.Grid.{Place};
 ghost use Rattle.rules.specs.Steps.{allTriangles};
-ghost use Rattle.rules.specs.Outputs.{firstOf, drawingChecks, surveyOf, pointFloats};
+ghost use Rattle.rules.specs.Outputs.{firstOf, surveyOf, pointFloats};
 ghost use Rattle.rules.specs.Closing.{ClosedIn};
-ghost use Rattle.rules.specs.Water.{beyondBox, sixfold};
+ghost use Rattle.rules.specs.Water.{beyondBox, sixfold, volumeChecks};
+ghost use Rattle.drawing.specs.Filled.{Read};
 ghost use Rattle.drawing.specs.Draws.{lent};
 ghost use Rattle.water.specs.Corners.{placeOf};
 ghost use Rattle.volume.specs.Reckons.{drawnOf, Reckons};
@@ -23,15 +23,29 @@ fn beyond(reference: Reference) -> bool
     reference.x > 1024 || (reference.y > 1024 || reference.z > 1024)
 }
 
-// The number of the first check that applies, where 13 does.
-fn refusal(cells: &[u8], corners: &[u8], clearance: f32) -> u32
-    ensures { λ r. ⌜ r ≡ firstOf (drawingChecks (now (cells .entry)) (now (corners .entry)) clearance ++ (13, true) ∷ []) ⌝ }
+// The checks of this call but those of the slices: those of drawing, then 13. The number of the first that applies, or 0: then the tables are as drawing needs
+// them.
+fn refusal(
+    cells: &[u8],
+    corners: &[u8],
+    clearance: f32,
+    reference: Reference,
+    laid: &mut [u64],
+    octants: &mut [u16],
+    wets: &mut [u8],
+) -> u32
+    requires { ⌜ (length (now laid) ≡ 2049) × (length (now octants) ≡ 16392) × (length (now wets) ≡ 4872) ⌝ }
+    ensures { λ r. ⌜ r ≡ firstOf (volumeChecks (now (cells .entry)) (now (corners .entry)) clearance (placeOf reference)) ⌝ }
+    ensures { λ r. ⌜ (r ≡ 0 → Read (now (cells .entry)) (now (corners .entry)) clearance (now (laid .exit)) (now (octants .exit)) (now (wets .exit))) ⌝ }
 {
-    let number = drawing::check(cells, corners, clearance);
+    let number = drawing::refusal(cells, corners, clearance, laid, octants, wets);
     if number != 0 {
         return number;
     }
-    13
+    if beyond(reference) {
+        return 13;
+    }
+    0
 }
 
 // A drawing's result with the volume.
@@ -64,15 +78,36 @@ pub fn reckon(
         → r .sixfold ≡ sixfold q (pointFloats (now (cells .entry)) (now (corners .entry)) clearance)
         (allTriangles (surveyOf (now (cells .entry)) (now (corners .entry)) clearance))) ⌝ }
 {
-    if beyond(reference) {
+    let mut laid = [0u64; 2049];
+    let mut octants = [0u16; 16392];
+    let mut wets = [0u8; 4872];
+    let number = refusal(
+        cells,
+        corners,
+        clearance,
+        reference,
+        &mut laid,
+        &mut octants,
+        &mut wets,
+    );
+    if number != 0 {
         return Water {
-            number: refusal(cells, corners, clearance),
+            number: number,
             points: 0,
             triangles: 0,
             sixfold: 0,
         };
     }
-    let drawn = drawing::draw(cells, corners, clearance, points, triangles);
+    let drawn = drawing::draw_drawable(
+        cells,
+        corners,
+        clearance,
+        &laid,
+        &octants,
+        &wets,
+        points,
+        triangles,
+    );
     if drawn.number != 0 {
         return with_volume(drawn, 0);
     }

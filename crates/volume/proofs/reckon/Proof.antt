@@ -1,40 +1,60 @@
--- `volume::reckon` meets its contract: refused for its reference, as a drawing that is refused, or drawn and summed over.
+-- `volume::reckon` meets its contract: refused before the slices are looked at, refused for them, or drawn and summed over.
 use mathlib.Core.Path.{_≡_, sym, _∙_, subst}
-use mathlib.Core.Bool.{true, false}
 use Rattle.base.proofs.Tests.{→false}
-use Rattle.rules.specs.Water.{beyondBox}
 use Rattle.water.specs.Corners.{placeOf}
 use Rattle.water.proofs.Signed.{kept}
-use Rattle.volume.proofs.Reckoned.{Promised, can-sum, drawn-promised, refused-promised, beyond-promised}
+use Rattle.volume.proofs.Outcome.{can-draw, inside}
+use Rattle.volume.proofs.Reckoned.{Promised, can-sum, drawn-promised, short-promised, refused-promised}
 use borrow.Author.Needs.{needs}
 use Rattle.volume.proofs.reckon.Statement.{statement}
 use Rattle.volume.proofs.reckon.Tie as tie
 
-abbrev start : tie.After-beyond → tie.Start
-start c = c .before .before .before .before .before
+abbrev start : tie.After-refusal → tie.Start
+start c = c .before .before .before .before .before .before .before .before
 
--- the drawing, after a reference that is not beyond the box
-abbrev beside : tie.After-draw → tie.After-beyond
-beside c = c .before .before .before .before
+abbrev checked : tie.Else1 → tie.After-refusal
+checked c = c .before .before .before .before
 
-inside : (c : tie.After-draw) → beyondBox (placeOf (start (beside c) .args .reference)) ≡ false
-inside c = sym (beside c .beyond .ensures) ∙ c .before .before .before .if1 .left
+abbrev passed : tie.After-draw-drawable → tie.Else1
+passed c = c .before .before .before .before .before .before
 
-beyond-requires : tie.Need-beyond-requires
-beyond-requires c κs = search needs
+slice-aggregate-refusal : tie.Need-slice-aggregate-refusal
+slice-aggregate-refusal c = search needs
+
+slice-aggregate-refusal-2 : tie.Need-slice-aggregate-refusal-2
+slice-aggregate-refusal-2 c = search needs
+
+slice-aggregate-refusal-3 : tie.Need-slice-aggregate-refusal-3
+slice-aggregate-refusal-3 c = search needs
 
 refusal-requires : tie.Need-refusal-requires
 refusal-requires c κs = search needs
 
 returns : tie.Need-returns
 returns c =
-    let a = start (c .before .before) .args in
-    let outside : beyondBox (placeOf (a .reference)) ≡ true = sym (c .before .before .beyond .ensures) ∙ c .before .if1 .taken in
-    beyond-promised (a .cells .now) (a .corners .now) (a .clearance) (a .points .now) (a .triangles .now) (placeOf (a .reference)) (c .refusal .result) outside
-    (c .refusal .ensures)
+    let r = c .before .before .before .before in
+    let a = start r .args in
+    refused-promised (a .cells .now) (a .corners .now) (a .clearance) (a .points .now) (a .triangles .now) (placeOf (a .reference)) (r .refusal .result)
+    (r .refusal .ensures .0) (c .if1 .taken)
 
-draw-requires : tie.Need-draw-requires
-draw-requires c κs = search needs
+slice-aggregate-draw-drawable : tie.Need-slice-aggregate-draw-drawable
+slice-aggregate-draw-drawable c = search needs
+
+slice-aggregate-draw-drawable-2 : tie.Need-slice-aggregate-draw-drawable-2
+slice-aggregate-draw-drawable-2 c = search needs
+
+slice-aggregate-draw-drawable-3 : tie.Need-slice-aggregate-draw-drawable-3
+slice-aggregate-draw-drawable-3 c = search needs
+
+draw-drawable-requires : tie.Need-draw-drawable-requires
+draw-drawable-requires c κs =
+    let e = c .before .before .before .before .before in
+    let r = checked e in
+    let a = start r .args in (
+      can-draw (a .cells .now) (a .corners .now) (a .clearance) (placeOf (a .reference)) (a .points .now) (a .triangles .now) (r .refusal .result)
+          (r .refusal .ensures .0) (e .if1 .left),
+      r .refusal .ensures .1 (e .if1 .left),
+    )
 
 with-volume-requires : tie.Need-with-volume-requires
 with-volume-requires c κs = search needs
@@ -48,19 +68,24 @@ same-length-2 c = search needs
 returns-2 : tie.Need-returns-2
 returns-2 c =
     let d = c .before .before .before .before .before .before .before in
-    let a = start (beside d) .args in
+    let e = passed d in
+    let r = checked e in
+    let a = start r .args in
     subst (Promised (a .cells .now) (a .corners .now) (a .clearance) (a .points .now) (a .triangles .now) (placeOf (a .reference)) _ _)
     (sym (c .with-volume .ensures))
-    (refused-promised (a .cells .now) (a .corners .now) (a .clearance) (a .points .now) (a .triangles .now) (placeOf (a .reference)) (d .draw .result) _ _
-    (d .draw .ensures .0) (c .before .if2 .taken) (inside d))
+    (short-promised (a .cells .now) (a .corners .now) (a .clearance) (a .points .now) (a .triangles .now) (placeOf (a .reference)) (r .refusal .result)
+    (r .refusal .ensures .0) (e .if1 .left) (d .draw-drawable .result) _ _ (d .draw-drawable .ensures) (c .before .if2 .taken))
 
 sum-requires : tie.Need-sum-requires
 sum-requires c κs =
     let d = c .before .before .before .before .before .before .before .before in
-    let a = start (beside d) .args in (
-      can-sum (a .cells .now) (a .corners .now) (a .clearance) (a .points .now) (a .triangles .now) (d .draw .result) _ _ (d .draw .ensures .0)
+    let e = passed d in
+    let r = checked e in
+    let a = start r .args in (
+      can-sum (a .cells .now) (a .corners .now) (a .clearance) (a .points .now) (a .triangles .now) (d .draw-drawable .result) _ _ (d .draw-drawable .ensures)
           (c .before .before .if2 .left),
-      →false (inside d),
+      →false (inside (a .cells .now) (a .corners .now) (a .clearance) (placeOf (a .reference)) (a .points .now) (a .triangles .now) (r .refusal .result)
+          (r .refusal .ensures .0) (e .if1 .left)),
     )
 
 with-volume-requires-2 : tie.Need-with-volume-requires-2
@@ -75,21 +100,29 @@ same-length-4 c = search needs
 returns-3 : tie.Need-returns-3
 returns-3 c =
     let d = c .before .before .before .before .before .before .before .before .before .before in
-    let a = start (beside d) .args in
+    let e = passed d in
+    let r = checked e in
+    let a = start r .args in
     let sum = c .before .sum in
     subst (Promised (a .cells .now) (a .corners .now) (a .clearance) (a .points .now) (a .triangles .now) (placeOf (a .reference)) _ _)
     (sym (c .with-volume2 .ensures))
-    (drawn-promised (a .cells .now) (a .corners .now) (a .clearance) (a .points .now) (a .triangles .now) (d .draw .result) _ _ (d .draw .ensures .0)
-    (c .before .before .before .before .if2 .left) (placeOf (a .reference)) _ (kept (sum .result) (sum .ok) ∙ sum .ensures) (inside d))
+    (drawn-promised (a .cells .now) (a .corners .now) (a .clearance) (a .points .now) (a .triangles .now) (d .draw-drawable .result) _ _
+    (d .draw-drawable .ensures) (c .before .before .before .before .if2 .left) (placeOf (a .reference)) _ (kept (sum .result) (sum .ok) ∙ sum .ensures)
+    (r .refusal .result) (r .refusal .ensures .0) (e .if1 .left))
 
 pub reckon-spec : {M : Type 1} → statement M
 reckon-spec =
     tie.close
     (tie.spec
-    beyond-requires
+    slice-aggregate-refusal
+    slice-aggregate-refusal-2
+    slice-aggregate-refusal-3
     refusal-requires
     returns
-    draw-requires
+    slice-aggregate-draw-drawable
+    slice-aggregate-draw-drawable-2
+    slice-aggregate-draw-drawable-3
+    draw-drawable-requires
     with-volume-requires
     same-length
     same-length-2

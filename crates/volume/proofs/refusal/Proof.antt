@@ -1,26 +1,94 @@
--- `volume::refusal` meets its contract.
-use mathlib.Core.Path.{refl}
-use mathlib.Core.Bool.{true}
-use Rattle.rules.specs.Outputs.{surveyChecks, checks, drawingChecks}
-use Rattle.octree.proofs.Accepted.{refused-before, refused-last}
+-- `volume::refusal` meets its contract: the reference is looked at where drawing's own checks find nothing to refuse.
+use mathlib.Core.Path.{sym, _∙_}
+use native.Mathlib.Omega.{arith}
+use Rattle.water.specs.Corners.{placeOf}
+use Rattle.volume.proofs.Outcome.{refused-earlier, refused-beyond, refused-not}
 use borrow.Author.Needs.{needs}
 use Rattle.volume.proofs.refusal.Statement.{statement}
 use Rattle.volume.proofs.refusal.Tie as tie
 
-check-requires : tie.Need-check-requires
-check-requires c κs = search needs
+abbrev start : tie.After-refusal → tie.Start
+start c = c .before .before .before .before .before .before .before .before .before
+
+abbrev checked : tie.Else1 → tie.After-refusal
+checked c = c .before .before .before .before .before .before .before
+
+refusal-requires : tie.Need-refusal-requires
+refusal-requires c κs = search needs
+
+same-length : tie.Need-same-length
+same-length c = search needs
+
+same-length-2 : tie.Need-same-length-2
+same-length-2 c = search needs
+
+same-length-3 : tie.Need-same-length-3
+same-length-3 c = search needs
 
 returns : tie.Need-returns
 returns c =
-    let s = c .before .before .before .before in
-    refused-before (drawingChecks (s .args .cells .now) (s .args .corners .now) (s .args .clearance)) (unfold drawingChecks checks surveyChecks in tt) 13 true
-    (c .before .check .result) (c .before .check .ensures) (c .if1 .taken)
+    let r = c .before .before .before .before .before .before .before in
+    let a = start r .args in (
+      refused-earlier (a .cells .now) (a .corners .now) (a .clearance) (placeOf (a .reference)) (r .refusal .result) (r .refusal .ensures .0) (c .if1 .taken),
+      λ z. absurd (c .if1 .taken z),
+    )
+
+beyond-requires : tie.Need-beyond-requires
+beyond-requires c κs = search needs
+
+same-length-4 : tie.Need-same-length-4
+same-length-4 c = search needs
+
+same-length-5 : tie.Need-same-length-5
+same-length-5 c = search needs
+
+same-length-6 : tie.Need-same-length-6
+same-length-6 c = search needs
 
 returns-2 : tie.Need-returns-2
 returns-2 c =
-    let s = c .before .before .before .before in
-    refused-last (drawingChecks (s .args .cells .now) (s .args .corners .now) (s .args .clearance)) (unfold drawingChecks checks surveyChecks in tt) 13 true
-    (c .before .check .result) (c .before .check .ensures) (c .if1 .left) refl
+    let e = c .before .before in
+    let r = checked e in
+    let a = start r .args in (
+      refused-beyond (a .cells .now) (a .corners .now) (a .clearance) (placeOf (a .reference)) (r .refusal .result) (r .refusal .ensures .0) (e .if1 .left)
+          (sym (c .before .beyond .ensures) ∙ c .if2 .taken),
+      λ z. absurd (omega arith),
+    )
+
+same-length-7 : tie.Need-same-length-7
+same-length-7 c = search needs
+
+same-length-8 : tie.Need-same-length-8
+same-length-8 c = search needs
+
+same-length-9 : tie.Need-same-length-9
+same-length-9 c = search needs
+
+returns-3 : tie.Need-returns-3
+returns-3 c =
+    let e = c .before .before in
+    let r = checked e in
+    let a = start r .args in (
+      refused-not (a .cells .now) (a .corners .now) (a .clearance) (placeOf (a .reference)) (r .refusal .result) (r .refusal .ensures .0) (e .if1 .left)
+          (sym (c .before .beyond .ensures) ∙ c .if2 .left),
+      λ z. r .refusal .ensures .1 (e .if1 .left),
+    )
 
 pub refusal-spec : {M : Type 1} → statement M
-refusal-spec = tie.close (tie.spec check-requires returns returns-2)
+refusal-spec =
+    tie.close
+    (tie.spec
+    refusal-requires
+    same-length
+    same-length-2
+    same-length-3
+    returns
+    beyond-requires
+    same-length-4
+    same-length-5
+    same-length-6
+    returns-2
+    same-length-7
+    same-length-8
+    same-length-9
+    returns-3)
