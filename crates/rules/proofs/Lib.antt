@@ -4,3 +4,4 @@ pub mod Further
 pub mod WhichEnd
 pub mod Awash
 pub mod OpenAtBox
+pub mod Volumes

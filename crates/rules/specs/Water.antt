@@ -62,7 +62,7 @@ pub record Reckoning : Type 0 where
 -- The call, of what the two slices hold before. All is as for a drawing, but for 13, which has the counts 0 and 0; and six times the volume, which is zero for
 -- a refusal.
 unfoldable pub volume : List ℕ → List ℕ → Float → Place → List Float → List ℕ → Reckoning
-unfolding volumeChecks surveyOf pointEdges pointFloats allTriangles draw
+unfolding sixfoldOf volumeChecks surveyOf pointEdges pointFloats allTriangles draw
 volume tc tk clearance reference ps ts =
     let number = firstOf (volumeChecks tc tk clearance reference ++ sliceChecks tc tk clearance ps ts) in
     let drawn = draw tc tk clearance ps ts in
