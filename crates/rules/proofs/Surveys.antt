@@ -2,11 +2,9 @@
 -- Assumes nothing.
 use Prim.Native.Nat.{ℕ, zero, suc, _/_, _%_}
 use mathlib.Core.Path.{_≡_, refl, ap₂}
-use mathlib.Core.Bool.{Bool, true, false, not, _&&_, cond}
+use mathlib.Core.Bool.{Bool, true, false, _&&_, cond}
 use mathlib.Core.List.{List, [], _∷_, _++_, map}
 use lib.Dec.{eqb, eqb→eq, T}
-use lib.IntN.{natAbs}
-use lib.Signed.{nonNeg}
 use lib.ListN.{length, replicate}
 use lib.Ieee.{Float, binary32, ofBits, toBits}
 use Rattle.base.specs.Lists.{any, all, keep, collect, bit}
@@ -18,7 +16,6 @@ use Rattle.rules.specs.Outputs.{surveyRefusal, accepted, surveyOf, Drawi
 use Rattle.rules.specs.Closing.{isOdd}
 use Rattle.rules.specs.StepByAnswers.{oddEdges, faceAnswers, stepBy, hasSmallFace}
 use Rattle.rules.specs.AwashPlaces.{dryCorner, wetCorner, cornerSpot}
-use Rattle.rules.specs.Water.{Reckoning, volume}
 use Rattle.rules.specs.declared.End.{End}
 use Rattle.rules.specs.declared.End.the-variants.{Lower, Upper}
 
@@ -105,7 +102,7 @@ split = record { cells = cellTable (1 ∷ leaves 8); corners = grid (0 ∷ 512 �
 -- a check by itself; a drawing with slices of two lengths; an enquiry by axis, lower end and length; the steps of a face by its four wet marks; of
 -- a face on a side, whether it is a small face of some leaf, how many edges are odd, the steps by the rules, with their count, and the step by the answers
 -- for its four edges; of an edge by axis, lower end and level, whether the survey is accepted, whether it is an edge and odd, t, the dry end and the place by
--- the edge's own two ends; the volume from a reference, with slices of two lengths
+-- the edge's own two ends
 pub data Call : Type 0 where
   checking : Call
   drawing : ℕ → ℕ → Call
@@ -113,7 +110,6 @@ pub data Call : Type 0 where
   stepping : Bool → Bool → Bool → Bool → Call
   seeing : Axis → Bool → Face → Call
   reckoning : Axis → Place → ℕ → Call
-  measuring : Place → ℕ → ℕ → Call
 
 -- two tables, the bits of a clearance, a call and its answer
 pub record Example : Type 0 where
@@ -155,13 +151,6 @@ abbrev pub drawingNumbers : Drawing → List ℕ
 unfolding toBits
 drawingNumbers d = d .result .number ∷ d .result .points ∷ d .result .triangles ∷ map bits (d .points) ++ d .triangles
 
--- the volume's answer: number, counts, whether six times the volume is below zero and how far from it, and the slices
-abbrev pub volumeNumbers : Reckoning → List ℕ
-unfolding toBits
-volumeNumbers v =
-    let n = v .result .sixfold in
-    v .result .number ∷ v .result .points ∷ v .result .triangles ∷ bit (not (nonNeg n)) ∷ natAbs n ∷ map bits (v .points) ++ v .triangles
-
 -- an end by the number that C has for it
 abbrev pub endNumber : End → ℕ
 endNumber Lower = 1
@@ -178,11 +167,10 @@ abbrev pub stepNumbers : List Step → List ℕ
 stepNumbers ss = collect (λ t. t .0 ∷ t .1 ∷ []) ss
 
 unfoldable pub outcome : Call → Float → List ℕ → List ℕ → List ℕ
-unfolding surveyRefusal draw volume enquiry ofBits toBits saddleCut surveyOf faceSteps hasSmallFace oddEdges faceAnswers
+unfolding surveyRefusal draw enquiry ofBits toBits saddleCut surveyOf faceSteps hasSmallFace oddEdges faceAnswers
     accepted cornersOf isEdge odd fraction spotOn dryCorner wetCorner cornerSpot
 outcome checking clearance tc tk = surveyRefusal tc tk ∷ []
 outcome (drawing n m) clearance tc tk = drawingNumbers (draw tc tk clearance (replicate n (ofBits binary32 oldFloat)) (replicate m oldNumber))
-outcome (measuring r n m) clearance tc tk = volumeNumbers (volume tc tk clearance r (replicate n (ofBits binary32 oldFloat)) (replicate m oldNumber))
 outcome (asking a p l) clearance tc tk = answerNumbers (enquiry tc tk clearance a p l)
 outcome (stepping a b c d) clearance tc tk = stepNumbers (steps (saddleCut X origin 0) a b c d)
 outcome (seeing a upper f) clearance tc tk =
@@ -218,7 +206,7 @@ unfoldable pub right : Example → Bool
 unfolding outcomeOf
 right e = equal (outcomeOf e) (e .answer)
 
-abbrev pub Each : (Example → Type 0) → List Example → Type 0
+abbrev pub Each : {A : Type 0} → (A → Type 0) → List A → Type 0
 Each P [] = Unit {0}
 Each P (e ∷ es) = P e × Each P es
 
@@ -237,7 +225,14 @@ equal→eq (x ∷ xs) [] t = absurd t
 equal→eq (x ∷ xs) (y ∷ ys) t =
     ap₂ (λ (h : ℕ) (r : List ℕ). h ∷ r) (eqb→eq x y (and-left (eqb x y) (equal xs ys) t)) (equal→eq xs ys (and-right (eqb x y) (equal xs ys) t))
 
+-- of things that are given a list of numbers, and have it as their answer
+pub each-given : {A : Type 0} (given answer : A → List ℕ) (es : List A) → T (all (λ e. equal (given e) (answer e)) es) → Each (λ e. given e ≡ answer e) es
+each-given given answer [] t = tt
+each-given given answer (e ∷ es) t =
+    let same = equal (given e) (answer e) in
+    let rest = all (λ e. equal (given e) (answer e)) es in
+    (equal→eq (given e) (answer e) (and-left same rest t), each-given given answer es (and-right same rest t))
+
 pub each : (es : List Example) → T (all right es) → Each Right es
 unfolding Right right
-each [] t = tt
-each (e ∷ es) t = (equal→eq (outcomeOf e) (e .answer) (and-left (right e) (all right es) t), each es (and-right (right e) (all right es) t))
+each es t = each-given outcomeOf (λ (e : Example). e .answer) es t
