@@ -48,7 +48,7 @@
  *
  * So a number's size does not tell what it means. A drawing is there to be had with 0, CLEARANCE_POINT_SLICE and CLEARANCE_TRIANGLE_SLICE, and with
  * nothing else: ask for these by name. A program that takes every number from CLEARANCE_POINT_SLICE on for a drawing takes a pool that is open at the
- * box (12) for an empty one.
+ * box (12), or a reference beyond it (13), for an empty one.
  */
 #ifndef CLEARANCE_H
 #define CLEARANCE_H
@@ -150,8 +150,11 @@ struct clearance_water {
  * (x, y, z) of the box, in whole units.
  *
  * For this alone each coordinate of each point is taken down to a whole sixteenth. The sum over all triangles of the determinant of the three corners, in
- * their order, taken from the reference, is six times the volume, with its sign. In cubic units the volume is sixfold / 24576.0, since a cubic unit has
- * 4,096 cubic sixteenths.
+ * their order, taken from the reference, is six times the volume. In cubic units the volume is sixfold / 24576.0, since a cubic unit has 4,096 cubic
+ * sixteenths. With 9 and 10 there is a drawing to be had, but sixfold is 0.
+ *
+ * The sum counts as positive what lies behind triangles that turn counter-clockwise, which is the wet side. It was negative in no survey tested; this is
+ * not proved.
  *
  * The sum is the same for every reference, and neither it nor any step on the way to it is too large for 64 bits. This is proved.
  */

@@ -13,7 +13,7 @@ ghost use Rattle.rules.specs.Outputs.{surveyRefusal, surveyOf, pointFloats, enq
 ghost use Rattle.rules.specs.Closing.{ClosedIn};
 ghost use Rattle.rules.specs.Water.{sixfold, beyondBox};
 ghost use Rattle.drawing.specs.Draws.{lent, Draws};
-ghost use Rattle.volume.specs.Reckons.{drawnOf as drawnPart, Reckons};
+ghost use Rattle.volume.specs.Reckons.{drawnPart, Reckons};
 ghost use Rattle.clearance.specs.Reply.{endNumber, replyOf, told};
 ghost use Rattle.rules.specs.declared.Answer.the-variants.{Found};
 ghost use Rattle.clearance.specs.Counts.{drawnOf, waterOf};
@@ -41,7 +41,7 @@ pub struct Counts {
 
 // What the call for the volume returns: a number (0 if drawn), both counts, and six times the volume in cubic sixteenths.
 #[repr(C)]
-pub struct Volume {
+pub struct Water {
     pub number: u32,
     pub points: u32,
     pub triangles: u32,
@@ -160,7 +160,7 @@ pub extern "C" fn clearance_volume(
     z: u32,
     points: &mut [f32],
     triangles: &mut [u32],
-) -> Volume
+) -> Water
     ensures exact { λ r. ⌜ Reckons (lent (now (cells .entry)) (now (corners .entry)) clearance (now (points .entry)) (now (triangles .entry)))
         (record { x = x; y = y; z = z }) (waterOf r) (now (points .exit)) (now (triangles .exit)) ⌝ }
     ensures closes { λ r. ⌜ (r .number ≡ 0 → ClosedIn (now (cells .entry)) (now (corners .entry)) clearance (drawnPart (waterOf r))
@@ -171,7 +171,7 @@ pub extern "C" fn clearance_volume(
 {
     let reference = Reference { x: x, y: y, z: z };
     let w = volume::reckon(cells, corners, clearance, reference, points, triangles);
-    Volume {
+    Water {
         number: w.number,
         points: w.points,
         triangles: w.triangles,

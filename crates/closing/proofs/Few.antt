@@ -1,6 +1,6 @@
 -- How many triangles there are, and that their numbers are numbers of points. Each leaf has at most as many triangles as it meets points, and at most four
 -- leaves meet a point (`few-meet`, geometry/proofs/Around.antt).
---     few-triangles      of every lawful survey: at most four triangles for each point
+--     lawful-few         of every lawful survey: at most four triangles for each point
 --     triangles-few      of the drawing of the rules, whatever tables and clearance are accepted: not refused by 1 to 8
 --     triangle-below     the numbers in a triangle are below the point count
 --     few-by, below-by   the same of other rules that cut loops into triangles
@@ -135,13 +135,13 @@ fan-inner (v ∷ a ∷ r) t i = let (e, f, g) = fan-from-inner v a r t i in (inl
 -- ---- the drawing of the rules
 
 -- at most four triangles for each point
-pub few-triangles : (s : Survey) → Lawful s → length (allTriangles s) ≤ 4 * length (pointEdges s)
+pub lawful-few : (s : Survey) → Lawful s → length (allTriangles s) ≤ 4 * length (pointEdges s)
 unfolding allTriangles
-few-triangles s law = few-by s law fan fan-few
+lawful-few s law = few-by s law fan fan-few
 
 pub triangles-few : (tc tk : List ℕ) (clearance : Float) → T (accepted tc tk clearance)
     → let s = surveyOf tc tk clearance in length (allTriangles s) ≤ 4 * length (pointEdges s)
-triangles-few tc tk clearance ok = few-triangles (surveyOf tc tk clearance) (lawful tc tk clearance ok)
+triangles-few tc tk clearance ok = lawful-few (surveyOf tc tk clearance) (lawful tc tk clearance ok)
 
 -- a triangle's numbers are below the point count
 pub triangle-below : (s : Survey) → Lawful s → (t : Triangle) → In t (allTriangles s)

@@ -1,5 +1,5 @@
--- What closing says of weights: where triangles run between any two points as often one way as the other, every weight of steps comes to the same over their runs
--- as with each step turned round.
+-- What closing says of weights: where triangles run between any two points as often one way as the other, every weight of steps comes to the same over their
+-- runs as with each step turned round.
 -- Assumes nothing.
 use Prim.Native.Nat.{ℕ, zero, suc, _+_, _*_, _≤_, _<_}
 use mathlib.Core.Path.{_≡_, refl, sym, ap, _∙_}

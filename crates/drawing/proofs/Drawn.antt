@@ -13,7 +13,8 @@ use Rattle.base.proofs.Tests.{eq→eqb, true→, →false}
 use Rattle.rules.specs.Survey.{cornersOf}
 use Rattle.rules.specs.Edges.{CellEdge, pointEdges, spotOn, OnEdge}
 use Rattle.rules.specs.Steps.{allTriangles}
-use Rattle.rules.specs.Outputs.{numbers, firstOf, surveyChecks, checks, drawingChecks, drawable, surveyOf, pointFloats, triangleNumbers, written, Drawing, sliceChecks, draw}
+use Rattle.rules.specs.Outputs.{numbers, firstOf, surveyChecks, checks, drawingChecks, drawable, surveyOf, pointFloats, triangleNumbers, written}
+use Rattle.rules.specs.Outputs.{Drawing, sliceChecks, draw}
 use Rattle.rules.specs.Closing.{Carries, Closed, ClosedIn}
 use Rattle.octree.proofs.Accepted.{first-append, first-none}
 use Rattle.places.proofs.Stored.{point-floats, placed}
@@ -48,7 +49,8 @@ module _ (tc tk : List ℕ) (clearance : Float) (ps : List Float) (ts : List ℕ
       }
 
   -- drawing: refused by the checks before the slices', else by the slices'
-  pub draw-is : draw tc tk clearance ps ts ≡ given (cond (drawable tc tk clearance) (firstOf (sliceChecks tc tk clearance ps ts)) (firstOf (drawingChecks tc tk clearance)))
+  pub draw-is : draw tc tk clearance ps ts
+      ≡ given (cond (drawable tc tk clearance) (firstOf (sliceChecks tc tk clearance ps ts)) (firstOf (drawingChecks tc tk clearance)))
   unfolding draw given drawable
   draw-is = ap given (first-append (drawingChecks tc tk clearance) (sliceChecks tc tk clearance ps ts) (unfold drawingChecks checks surveyChecks in tt))
 

@@ -9,29 +9,29 @@ use native.Mathlib.Nat.{mul-le-mul-right}
 use native.Mathlib.Omega.{arith}
 use lib.Dec.{T, ltb, lit≤}
 use lib.IntN.{pos}
-use lib.Ieee.{Float, binary32, add, sub, mul, le, ofInt, fits}
+use lib.Ieee.{Float, binary32, add, sub, mul, ofInt, fits}
 use lib.Ieee.Fits.{add-fits, sub-fits, cond-fits, ofInt-fits}
 use lib.Ieee.Positive.{den}
-use Rattle.base.specs.Grid.{Place, Axis, X, Y, Z, along, next}
+use Rattle.base.specs.Grid.{Place, Axis, X, Y, Z, along}
 use Rattle.base.proofs.Lists.{In, in-collect}
 use Rattle.base.proofs.Places.{along-put}
 use Rattle.rules.specs.Survey.{cornersOf, placeOf, cornerAt, wet}
 use Rattle.rules.specs.Edges.{CellEdge, upperEnd, pointEdges, numberOf, float, fraction, moving, Spot, spot, spotOn, coordinate, OnEdge}
 use Rattle.rules.specs.Outputs.{accepted, surveyOf, coordinates, pointFloats}
+use Rattle.rules.specs.Water.{InBox}
 use Rattle.rules.specs.declared.Corner.{Corner}
 use Rattle.octree.specs.Lawful.{Lawful}
 use Rattle.octree.proofs.Accepted.{lawful}
 use Rattle.octree.proofs.Edges.{edge→, undivided→, crossed→}
 use Rattle.octree.proofs.Aligned.{corner-place, edge-in-box}
 use Rattle.octree.proofs.Points.{point-crossed, crossed-carries}
-use Rattle.rounding.proofs.Order.{Between}
 use Rattle.rounding.proofs.Rounds.{whole-is, between-wider}
 use Rattle.rounding.proofs.Parts.{at-most-between}
 use Rattle.places.proofs.OnEdge.{on-edge}
 
 -- a coordinate lies in the box, and is a binary32 number
 pub record Boxed (v : Float) : Type 0 where
-  pub inside : T (le (float 0) v) × T (le v (float 1024))
+  pub inside : InBox v
   pub held : T (fits binary32 v)
 
 -- a whole number of the box
@@ -98,7 +98,7 @@ module _ (tc tk : List ℕ) (clearance : Float) (ok : T (accepted tc tk clearanc
       let high = along (e .axis) (upperEnd e) in
       let end : high ≡ low + 2 ^ e .level = along-put (e .axis) (low + 2 ^ e .level) (e .low) in
       let top = edge-in-box (s .cells) (law .octree) (e .axis) (e .low) (e .level) t in
-      let inside : T (le (float 0) v) × T (le v (float 1024)) =
+      let inside : InBox v =
       unfold float in between-wider binary32 low high 0 1024 v (omega arith) (omega arith) (omega arith) (lit≤ tt) (from, to) in
       spot-boxed (e .axis) v (e .low) (record { inside = inside; held = spot-held (cornersOf tk) clearance e })
       (λ b. corner-place (s .cells) (law .octree) (e .level) q (e .low) c f b .1) x (subst (λ (s : Spot). In x (coordinates s)) is j)

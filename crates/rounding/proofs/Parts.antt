@@ -102,7 +102,8 @@ between-at-most f k x fit (a, b) =
     let top : Le x y = le→Le x y p fy (is-true (le x y) b) in
     let l : lo x ≤ hi x = le-of-mul-le-mul-right {k = den z} (omega (arith, ap (λ (n : ℕ). n * den x) hz, ap (λ (n : ℕ). n * den x) lz)) (den-pos z) in
     let n : lo x ≡ 0 = one-sided x p l in
-    (p, n, le-of-mul-le-mul-right {k = den y} (omega (arith, ap (λ (m : ℕ). m * den x) hy, ap (λ (m : ℕ). m * den x) ly, ap (λ (m : ℕ). m * den y) n)) (den-pos y))
+    let hn = ap (λ (m : ℕ). m * den y) n in
+    (p, n, le-of-mul-le-mul-right {k = den y} (omega (arith, ap (λ (m : ℕ). m * den x) hy, ap (λ (m : ℕ). m * den x) ly, hn)) (den-pos y))
   where
     one-sided : (r : Float) → T (finite r) → lo r ≤ hi r → lo r ≡ 0
     one-sided (fin true m e) p h = omega arith

@@ -1,7 +1,7 @@
 -- Sixteen times a binary32 number from 0 to 1,024 is reckoned without rounding, so its whole part is that of sixteen times the number's value.
 -- Assumes nothing.
 use Prim.Native.Nat.{ℕ, suc, _+_, _-_, _*_, _/_, _^_, _≤_, _<_, min}
-use mathlib.Core.Path.{_≡_, refl, sym, ap, _∙_, subst}
+use mathlib.Core.Path.{_≡_, refl, sym, ap, _∙_}
 use mathlib.Core.Bool.{true, false, true≢false}
 use native.Mathlib.Nat.{lt-of-le-of-lt, mul-one, mul-assoc, mul-le-mul-right, le-of-mul-le-mul-right, div-lt-iff-lt-mul, zero-div}
 use native.Mathlib.Omega.{arith}

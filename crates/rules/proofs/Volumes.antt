@@ -81,6 +81,8 @@ references =
     beyond (place 0 1025 0) ∷
     beyond (place 0 0 1025) ∷
     beyond (place 4294967295 4294967295 4294967295) ∷
+    -- with room for the drawing
+    measure split centre (place 0 1025 0) 18 24 (13 ∷ 0 ∷ 0 ∷ 0 ∷ 0 ∷ untouched 18 24) ∷
     -- 13 and 9: 13; 12 and 13, 8 and 13, 7 and 13: the one before 13
     measure split centre (place 0 1025 0) 0 0 (13 ∷ 0 ∷ 0 ∷ 0 ∷ 0 ∷ []) ∷
     measure leaf oneWet (place 0 1025 0) 0 0 (12 ∷ 0 ∷ 0 ∷ 0 ∷ 0 ∷ []) ∷

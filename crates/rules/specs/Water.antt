@@ -7,16 +7,17 @@ use mathlib.Core.List.{List, [], _∷_, _++_}
 use lib.Dec.{eqb, ltb, leb, T}
 use lib.ListN.{length, getD, take}
 use lib.IntN.{ℤ, pos, natAbs, _+ℤ_, _-ℤ_, _*ℤ_}
-use lib.Ieee.{Float, nan, fin, binary32, mul, toUnsigned}
+use lib.Ieee.{Float, nan, fin, binary32, mul, le, toUnsigned}
 use lib.Ieee.Positive.{num, den}
 use Rattle.base.specs.Lists.{any, all}
 use Rattle.base.specs.Grid.{Place, Axis, X, Y, Z, axes, axisNumber, next, along}
-use Rattle.rules.specs.Edges.{pointEdges}
+use Rattle.rules.specs.Edges.{pointEdges, float}
 use Rattle.rules.specs.Steps.{Triangle, allTriangles}
-use Rattle.rules.specs.Outputs.{firstOf, accepted, drawingChecks, drawable, surveyOf, pointFloats, sliceChecks, draw}
+use Rattle.rules.specs.Outputs.{numbers, firstOf, accepted, drawingChecks, drawable, surveyOf, pointFloats, sliceChecks, draw}
 use Rattle.rules.specs.declared.Water.{Water}
 
--- "Each coordinate of each point is taken down to a whole sixteenth": a coordinate is num / den, and this is how many whole sixteenths are in it
+-- "Each coordinate of each point is taken down to a whole sixteenth": a coordinate, which is never below 0 (`AllTakenDown`), is num / den, and this is how many
+-- whole sixteenths are in it
 unfoldable pub sixteenths : Float → ℕ
 sixteenths v = 16 * num v / den v
 
@@ -26,13 +27,13 @@ unfoldable pub offset : Place → List Float → ℕ → Axis → ℤ
 unfolding sixteenths
 offset reference points p a = pos (sixteenths (getD points (3 * p + axisNumber a) nan)) -ℤ pos (16 * along a reference)
 
--- the part of a determinant that the first corner's coordinate on an axis has
-abbrev pub cofactor : (Axis → ℤ) → (Axis → ℤ) → (Axis → ℤ) → Axis → ℤ
-cofactor a b c x = a x *ℤ (b (next x) *ℤ c (next (next x)) -ℤ b (next (next x)) *ℤ c (next x))
+-- the term of a determinant's expansion that has the first corner's coordinate on an axis
+abbrev pub term : (Axis → ℤ) → (Axis → ℤ) → (Axis → ℤ) → Axis → ℤ
+term a b c x = a x *ℤ (b (next x) *ℤ c (next (next x)) -ℤ b (next (next x)) *ℤ c (next x))
 
 -- the determinant of three corners, given by their coordinates
 abbrev pub determinant : (Axis → ℤ) → (Axis → ℤ) → (Axis → ℤ) → ℤ
-determinant a b c = cofactor a b c X +ℤ cofactor a b c Y +ℤ cofactor a b c Z
+determinant a b c = term a b c X +ℤ term a b c Y +ℤ term a b c Z
 
 -- the determinant of a triangle's three corners taken from the reference
 unfoldable pub sixfoldOf : Place → List Float → Triangle → ℤ
@@ -81,7 +82,7 @@ volume tc tk clearance reference ps ts =
 
 -- ---- what the request says of the number
 
--- "The sum must come out equal for any two reference points": of the box, for whatever is drawn
+-- "The sum must come out equal for any two reference points": of the box, for whatever is drawn. (That they lie in the box is not needed.)
 unfoldable pub AnyReference : Type 0
 unfolding drawable surveyOf pointFloats allTriangles
 AnyReference = (tc tk : List ℕ) (clearance : Float) → T (drawable tc tk clearance) → (p q : Place) → T (not (beyondBox p)) → T (not (beyondBox q))
@@ -89,8 +90,20 @@ AnyReference = (tc tk : List ℕ) (clearance : Float) → T (drawable tc tk clea
     let triangles = allTriangles (surveyOf tc tk clearance) in
     sixfold p points triangles ≡ sixfold q points triangles
 
--- A sixteenth is taken down exactly: sixteen times the coordinate comes out in binary32 without rounding, and its whole part, at most 16,384, is what is taken.
+-- So the call gives the same from any two references of the box, whatever is handed in.
+unfoldable pub SameAnswer : Type 0
+unfolding volume
+SameAnswer = (tc tk : List ℕ) (clearance : Float) (p q : Place) (ps : List Float) (ts : List ℕ) → T (not (beyondBox p)) → T (not (beyondBox q))
+    → volume tc tk clearance p ps ts ≡ volume tc tk clearance q ps ts
+
+-- a coordinate lies in the box
+abbrev pub InBox : Float → Type 0
+InBox v = T (le (float 0) v) × T (le v (float 1024))
+
+-- A sixteenth is taken down exactly: the coordinate is not below 0, sixteen times it comes out in binary32 without rounding, and the whole part of that, at
+-- most 16,384, is what is taken.
 pub record TakenDown (v : Float) : Type 0 where
+  pub inside : InBox v
   pub exact : num (mul binary32 v (fin false 1 (pos 4))) * den v ≡ 16 * num v * den (mul binary32 v (fin false 1 (pos 4)))
   pub whole : toUnsigned 64 (mul binary32 v (fin false 1 (pos 4))) ≡ sixteenths v
   pub most : sixteenths v ≤ 16384
@@ -100,6 +113,12 @@ unfoldable pub AllTakenDown : Type 0
 unfolding accepted pointFloats
 AllTakenDown = (tc tk : List ℕ) (clearance : Float) → T (accepted tc tk clearance) → (i : ℕ) → i < length (pointFloats tc tk clearance)
     → TakenDown (getD (pointFloats tc tk clearance) i nan)
+
+-- every number in every triangle is that of a point: below the point count
+unfoldable pub NumbersBelow : Type 0
+unfolding accepted surveyOf pointEdges allTriangles
+NumbersBelow = (tc tk : List ℕ) (clearance : Float) → T (accepted tc tk clearance)
+    → let s = surveyOf tc tk clearance in T (all (λ t. all (λ p. ltb p (length (pointEdges s))) (numbers t)) (allTriangles s))
 
 -- the bound on the number of triangles: at most four for each point
 unfoldable pub FewTriangles : Type 0

@@ -13,15 +13,15 @@ use Rattle.rules.proofs.Volumes.{Measure, measure, measured, Measured, each-mea
 abbrev halves : Place → Measure
 halves r = measure split centre r 18 24 (0 ∷ 6 ∷ 8 ∷ 0 ∷ 8 * (256 * 256 * 256) * 4096 ∷ six ++ eight)
 
--- a third of 512 rounded, and 1,024 less that: 2,730 and two thirds of a sixteenth, and 13,653 and a third
+-- a third of 512 rounded, and 1,024 less that: in sixteenths 2,730 2/3 and 13,653 1/3
 abbrev low : ℕ
 low = 0x432a_aaab
 
 abbrev high : ℕ
 high = 0x4455_5555
 
--- Soundings 2 at the centre and -1 elsewhere: each point is taken down, so that the eight tetrahedra have sides of 8,192 - 2,730 and 13,653 - 8,192 sixteenths, in all
--- combinations. To the nearest sixteenth the first would be 5,461 as well.
+-- Soundings 2 at the centre and -1 elsewhere: each point is taken down, so that the eight tetrahedra have sides of 8,192 - 2,730 and 13,653 - 8,192
+-- sixteenths, in all combinations. To the nearest sixteenth the first would be 5,461 as well.
 abbrev thirds : Place → Measure
 thirds r = measure split (at (place 512 512 512 ∷ []) two minusOne) r 18 24
     (0 ∷ 6 ∷ 8 ∷ 0 ∷ (5462 + 5461) * (5462 + 5461) * (5462 + 5461) ∷

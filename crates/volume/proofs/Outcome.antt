@@ -162,7 +162,9 @@ module _ (tc tk : List ℕ) (clearance : Float) (reference : Place) (ps : List F
       where
         parts : firstOf (volumeChecks tc tk clearance reference)
             ≡ cond (eqb (firstOf (drawingChecks tc tk clearance)) 0) (cond (beyondBox reference) 13 0) (firstOf (drawingChecks tc tk clearance))
-        parts = unfold volumeChecks in first-append (drawingChecks tc tk clearance) ((13, beyondBox reference) ∷ []) (unfold drawingChecks checks surveyChecks in tt)
+        parts =
+            unfold volumeChecks in
+            first-append (drawingChecks tc tk clearance) ((13, beyondBox reference) ∷ []) (unfold drawingChecks checks surveyChecks in tt)
 
     pub turned-away : Reckons (lent tc tk clearance ps ts) reference (record { number = n; points = 0; triangles = 0; sixfold = pos 0 }) ps ts
     turned-away = record {

@@ -24,7 +24,7 @@ use Rattle.water.specs.Corners.{Summable}
 use Rattle.drawing.specs.Draws.{lent, Draws}
 use Rattle.drawing.proofs.Drawn.{whole, drawn-is, drawn-fits}
 use Rattle.drawing.proofs.Outcome.{drawn-closed}
-use Rattle.volume.specs.Reckons.{drawnOf, Reckons}
+use Rattle.volume.specs.Reckons.{drawnPart, Reckons}
 use Rattle.volume.proofs.Outcome.{withVolume, total, inside, reckoned, turned-away}
 use Rattle.volume.proofs.References.{same-sum}
 use Rattle.volume.proofs.Slices.{all-below, summable, slices-sum}
@@ -41,7 +41,7 @@ any-reference tc tk clearance ok p q _ _ =
 abbrev pub Promised : List ℕ → List ℕ → Float → List Float → List ℕ → Place → List Float → List ℕ → Water → Type 0
 Promised tc tk clearance ps ts reference points triangles w =
     Reckons (lent tc tk clearance ps ts) reference w points triangles × (
-    (w .number ≡ 0 → ClosedIn tc tk clearance (drawnOf w) points triangles) ×
+    (w .number ≡ 0 → ClosedIn tc tk clearance (drawnPart w) points triangles) ×
     (w .number ≡ 0 → (q : Place) → T (not (beyondBox q)) → w .sixfold ≡ sixfold q (pointFloats tc tk clearance) (allTriangles (surveyOf tc tk clearance))))
 
 -- ---- what was drawn
@@ -56,9 +56,6 @@ module _ (tc tk : List ℕ) (clearance : Float) (ps : List Float) (ts : List ℕ
 
   ok : T (accepted tc tk clearance)
   ok = drawable→ tc tk clearance can-draw .0
-
-  abbrev here : Drawing
-  here = record { result = r; points = points; triangles = triangles }
 
   as-whole : record { result = r; points = points; triangles = triangles } ≡ whole tc tk clearance ps ts
   as-whole = (λ i. record { result = drew .result-is i; points = drew .points-are i; triangles = drew .triangles-are i }) ∙ drawn-is tc tk clearance ps ts none

@@ -1,6 +1,6 @@
 -- The sum over triangles that close is the same from every reference. The determinant of a triangle's corners taken from a reference is that of the corners
--- themselves, less a part that is a weight of its three runs: the reference with the cross product of a run's ends. Turned round, a run has that weight with the
--- other sign, so over triangles that run between any two points as often one way as the other these parts come to nothing.
+-- themselves, less a part that is a weight of its three runs: the reference with the cross product of a run's ends. Turned round, a run has that weight with
+-- the other sign, so over triangles that run between any two points as often one way as the other these parts come to nothing.
 -- Assumes nothing.
 use Prim.Native.Nat.{ℕ, _+_, _*_, _<_}
 use mathlib.Core.Path.{_≡_, refl, sym, _∙_}
@@ -13,7 +13,7 @@ use Rattle.base.specs.Lists.{sum}
 use Rattle.base.specs.Grid.{Place, Axis, X, Y, Z, axisNumber, next, along}
 use Rattle.rules.specs.Steps.{Triangle}
 use Rattle.rules.specs.Closing.{run, runs}
-use Rattle.rules.specs.Water.{sixteenths, offset, cofactor, determinant, sixfoldOf, sixfold}
+use Rattle.rules.specs.Water.{sixteenths, offset, term, determinant, sixfoldOf, sixfold}
 use Rattle.closing.specs.Cutting.{turn}
 use Rattle.closing.proofs.Weights.{Below, balanced}
 use Rattle.water.proofs.Signed.{Is, is-same, is-add, is-minus, is-times}
@@ -40,15 +40,15 @@ module _ (A B C R : Axis → ℕ) where
   abbrev minorUnder : Axis → ℕ
   minorUnder x = let y = next x in let z = next (next x) in B z * C y + B y * R z + R y * C z
 
-  abbrev cofactorOver : Axis → ℕ
-  cofactorOver x = A x * minorOver x + R x * minorUnder x
+  abbrev termOver : Axis → ℕ
+  termOver x = A x * minorOver x + R x * minorUnder x
 
-  abbrev cofactorUnder : Axis → ℕ
-  cofactorUnder x = A x * minorUnder x + R x * minorOver x
+  abbrev termUnder : Axis → ℕ
+  termUnder x = A x * minorUnder x + R x * minorOver x
 
   module _ (a b c : Axis → ℤ) (ha : (x : Axis) → Is (a x) (A x) (R x)) (hb : (x : Axis) → Is (b x) (B x) (R x)) (hc : (x : Axis) → Is (c x) (C x) (R x)) where
-    cofactor-is : (x : Axis) → Is (cofactor a b c x) (cofactorOver x) (cofactorUnder x)
-    cofactor-is x =
+    term-is : (x : Axis) → Is (term a b c x) (termOver x) (termUnder x)
+    term-is x =
         let y = next x in
         let z = next (next x) in
         let bc = is-times (b y) (c z) (B y) (R y) (C z) (R z) (hb y) (hc z) in
@@ -57,25 +57,25 @@ module _ (A B C R : Axis → ℕ) where
         let minor : Is (b y *ℤ c z -ℤ b z *ℤ c y) (minorOver x) (minorUnder x) = omega (arith, both) in
         is-times (a x) (b y *ℤ c z -ℤ b z *ℤ c y) (A x) (R x) (minorOver x) (minorUnder x) (ha x) minor
 
-    cofactors-are : Is (determinant a b c) (three cofactorOver) (three cofactorUnder)
-    cofactors-are =
-        is-add (cofactor a b c X +ℤ cofactor a b c Y) (cofactor a b c Z) _ _ _ _
-        (is-add (cofactor a b c X) (cofactor a b c Y) _ _ _ _ (cofactor-is X) (cofactor-is Y)) (cofactor-is Z)
+    terms-are : Is (determinant a b c) (three termOver) (three termUnder)
+    terms-are =
+        is-add (term a b c X +ℤ term a b c Y) (term a b c Z) _ _ _ _
+        (is-add (term a b c X) (term a b c Y) _ _ _ _ (term-is X) (term-is Y)) (term-is Z)
 
-  -- a cofactor multiplied out: a part of the volume, of each run, and two products of one point with the reference twice
+  -- a term multiplied out: a part of the volume, of each run, and two products of one point with the reference twice
   abbrev second : Axis → ℕ
   second x = B (next x) * R (next (next x)) * R x
 
   abbrev third : Axis → ℕ
   third x = C (next (next x)) * R x * R (next x)
 
-  over-out : (x : Axis) → cofactorOver x
+  over-out : (x : Axis) → termOver x
       ≡ above A B C x + above R B A (next x) + above R A C (next (next x)) + above R C B x + second x + third x
   over-out X = omega arith
   over-out Y = omega arith
   over-out Z = omega arith
 
-  under-out : (x : Axis) → cofactorUnder x
+  under-out : (x : Axis) → termUnder x
       ≡ below A B C x + above R A B (next (next x)) + above R C A (next x) + above R B C x + second (next x) + third (next (next x))
   under-out X = omega arith
   under-out Y = omega arith
@@ -92,8 +92,8 @@ abbrev across : (Axis → ℕ) → (Axis → ℕ) → (Axis → ℕ) → ℕ
 across R A B = three (above R A B)
 
 split : (A B C R : Axis → ℕ)
-    → three (cofactorOver A B C R) + (three (below A B C) + (across R A B + across R B C + across R C A))
-    ≡ three (above A B C) + (across R B A + across R C B + across R A C) + three (cofactorUnder A B C R)
+    → three (termOver A B C R) + (three (below A B C) + (across R A B + across R B C + across R C A))
+    ≡ three (above A B C) + (across R B A + across R C B + across R A C) + three (termUnder A B C R)
 split A B C R =
     let rest = three (below A B C) + (across R A B + across R B C + across R C A) in
     let whole = three (above A B C) + (across R B A + across R C B + across R A C) in
@@ -134,7 +134,8 @@ module _ (points : List Float) where
         let B = coordinate (t .1) in
         let C = coordinate (t .2) in
         other (sixfoldOf r points t) _ _ _ _
-        (cofactors-are A B C origin (offset r points (t .0)) (offset r points (t .1)) (offset r points (t .2)) (offset-is (t .0)) (offset-is (t .1)) (offset-is (t .2)))
+        (terms-are A B C origin (offset r points (t .0)) (offset r points (t .1)) (offset r points (t .2)) (offset-is (t .0)) (offset-is (t .1))
+        (offset-is (t .2)))
         (split A B C origin)
       where
         other : (z : ℤ) (a b c d : ℕ) → Is z a b → a + d ≡ c + b → Is z c d

@@ -17,7 +17,7 @@ use Rattle.rules.specs.Edges.{pointEdges}
 use Rattle.rules.specs.Steps.{Triangle, allTriangles}
 use Rattle.rules.specs.Outputs.{accepted, surveyOf, numbers, pointFloats, triangleNumbers, written}
 use Rattle.rules.specs.Closing.{trianglesIn}
-use Rattle.rules.specs.Water.{sixteenths, offset, determinant, sixfoldOf, sixfold}
+use Rattle.rules.specs.Water.{sixteenths, offset, determinant, sixfoldOf, sixfold, InBox}
 use Rattle.octree.proofs.Accepted.{lawful}
 use Rattle.closing.proofs.Few.{triangles-few, triangle-below}
 use Rattle.closing.proofs.Weights.{Below}
@@ -25,7 +25,7 @@ use Rattle.places.proofs.Stored.{point-floats}
 use Rattle.places.proofs.InBox.{floats-boxed}
 use Rattle.edges.proofs.PointSlots.{points-few}
 use Rattle.loops.proofs.Slices.{length-numbers}
-use Rattle.water.specs.Corners.{InBox, Placed, triangleAt, Summable}
+use Rattle.water.specs.Corners.{Placed, triangleAt, Summable}
 use Rattle.water.proofs.Sums.{later}
 use Rattle.drawing.proofs.Slices.{room, triangles-back}
 
@@ -43,7 +43,8 @@ axis-small Z = lit< tt
 
 -- ---- the sum by the coordinates of the points alone
 
-module _ (r : Place) (n : ℕ) (xs ys : List Float) (alike : (p : ℕ) → p < n → (a : Axis) → getD xs (3 * p + axisNumber a) nan ≡ getD ys (3 * p + axisNumber a) nan) where
+module _ (r : Place) (n : ℕ) (xs ys : List Float)
+    (alike : (p : ℕ) → p < n → (a : Axis) → getD xs (3 * p + axisNumber a) nan ≡ getD ys (3 * p + axisNumber a) nan) where
   offset-alike : (p : ℕ) → p < n → (a : Axis) → offset r xs p a ≡ offset r ys p a
   unfolding offset
   offset-alike p h a = ap (λ (v : Float). pos (sixteenths v) -ℤ pos (16 * along a r)) (alike p h a)
@@ -90,7 +91,9 @@ module _ (tc tk : List ℕ) (clearance : Float) (ok : T (accepted tc tk clearanc
 
     element : (p : ℕ) → p < count → (a : Axis)
         → getD (written (pointFloats tc tk clearance) ps) (3 * p + axisNumber a) nan ≡ getD (pointFloats tc tk clearance) (3 * p + axisNumber a) nan
-    element p h a = List·getD-append (pointFloats tc tk clearance) (drop (length (pointFloats tc tk clearance)) ps) nan (3 * p + axisNumber a) (element-below p h a)
+    element p h a =
+        let fs = pointFloats tc tk clearance in
+        List·getD-append fs (drop (length fs) ps) nan (3 * p + axisNumber a) (element-below p h a)
 
     placed : (p : ℕ) → p < count → Placed (written (pointFloats tc tk clearance) ps) p
     placed p h =

@@ -11,8 +11,8 @@ use Rattle.rules.specs.declared.Water.{Water}
 use Rattle.drawing.specs.Draws.{Lent}
 
 -- the number and the counts, as drawing returns them
-abbrev pub drawnOf : Water → Drawn
-drawnOf w = record { number = w .number; points = w .points; triangles = w .triangles }
+abbrev pub drawnPart : Water → Drawn
+drawnPart w = record { number = w .number; points = w .points; triangles = w .triangles }
 
 -- the result, and the slices afterwards, are those of the rules
 pub record Reckons (l : Lent) (reference : Place) (w : Water) (points : List Float) (triangles : List ℕ) : Type 0 where

@@ -10,15 +10,15 @@ ghost use Rattle.rules.specs.Closing.{ClosedIn};
 ghost use Rattle.rules.specs.Water.{beyondBox, sixfold, volumeChecks};
 ghost use Rattle.drawing.specs.Filled.{Read};
 ghost use Rattle.drawing.specs.Draws.{lent};
-ghost use Rattle.water.specs.Corners.{placeOf};
-ghost use Rattle.volume.specs.Reckons.{drawnOf, Reckons};
+ghost use Rattle.water.specs.Corners.{referencePlace};
+ghost use Rattle.volume.specs.Reckons.{drawnPart, Reckons};
 use rules::Drawn;
 use rules::Water;
 use water::Reference;
 
 // Check 13: a coordinate of the reference is above 1,024.
 fn beyond(reference: Reference) -> bool
-    ensures { λ r. ⌜ r ≡ beyondBox (placeOf reference) ⌝ }
+    ensures { λ r. ⌜ r ≡ beyondBox (referencePlace reference) ⌝ }
 {
     reference.x > 1024 || (reference.y > 1024 || reference.z > 1024)
 }
@@ -35,7 +35,7 @@ fn refusal(
     wets: &mut [u8],
 ) -> u32
     requires { ⌜ (length (now laid) ≡ 2049) × (length (now octants) ≡ 16392) × (length (now wets) ≡ 4872) ⌝ }
-    ensures { λ r. ⌜ r ≡ firstOf (volumeChecks (now (cells .entry)) (now (corners .entry)) clearance (placeOf reference)) ⌝ }
+    ensures { λ r. ⌜ r ≡ firstOf (volumeChecks (now (cells .entry)) (now (corners .entry)) clearance (referencePlace reference)) ⌝ }
     ensures { λ r. ⌜ (r ≡ 0 → Read (now (cells .entry)) (now (corners .entry)) clearance (now (laid .exit)) (now (octants .exit)) (now (wets .exit))) ⌝ }
 {
     let number = drawing::refusal(cells, corners, clearance, laid, octants, wets);
@@ -71,8 +71,8 @@ pub fn reckon(
     triangles: &mut [u32],
 ) -> Water
     ensures exact { λ r. ⌜ Reckons (lent (now (cells .entry)) (now (corners .entry)) clearance (now (points .entry)) (now (triangles .entry)))
-        (placeOf reference) r (now (points .exit)) (now (triangles .exit)) ⌝ }
-    ensures closes { λ r. ⌜ (r .number ≡ 0 → ClosedIn (now (cells .entry)) (now (corners .entry)) clearance (drawnOf r)
+        (referencePlace reference) r (now (points .exit)) (now (triangles .exit)) ⌝ }
+    ensures closes { λ r. ⌜ (r .number ≡ 0 → ClosedIn (now (cells .entry)) (now (corners .entry)) clearance (drawnPart r)
         (now (points .exit)) (now (triangles .exit))) ⌝ }
     ensures anywhere { λ r. ⌜ (r .number ≡ 0 → (q : Place) → T (not (beyondBox q))
         → r .sixfold ≡ sixfold q (pointFloats (now (cells .entry)) (now (corners .entry)) clearance)

@@ -14,15 +14,15 @@ use mir.Syntax.{w64}
 use mir.Val.{SFits, toZ, ofZ}
 use Rattle.base.specs.Grid.{Place, Axis, X, Y, Z, axisNumber, along}
 use Rattle.rules.specs.Edges.{float}
-use Rattle.rules.specs.Water.{sixteenths, offset, beyondBox, TakenDown}
+use Rattle.rules.specs.Water.{sixteenths, offset, beyondBox, TakenDown, InBox}
 use Rattle.rounding.proofs.Sixteenths.{exact, whole-part, whole-most}
-use Rattle.water.specs.Corners.{part, taken, Near, InBox, Placed}
+use Rattle.water.specs.Corners.{part, taken, Near, Placed}
 use Rattle.water.proofs.Signed.{is-minus, size-most, fits}
 use Rattle.water.proofs.Sizes.{own}
 
 pub taken-down : (v : Float) → T (Ieee.fits binary32 v) → InBox v → TakenDown v
 unfolding sixteenths float
-taken-down v held inBox = record { exact = exact v held inBox; whole = whole-part v held inBox; most = whole-most v inBox }
+taken-down v held inBox = record { inside = inBox; exact = exact v held inBox; whole = whole-part v held inBox; most = whole-most v inBox }
 
 -- a reference of the box has no coordinate above 1,024
 pub in-box : (r : Place) → T (not (beyondBox r)) → (a : Axis) → along a r ≤ 1024

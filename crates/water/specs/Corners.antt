@@ -2,19 +2,17 @@
 -- Assumes nothing: these are definitions.
 use Prim.Native.Nat.{ℕ, _+_, _*_, _≤_, _<_}
 use mathlib.Core.List.{List}
-use lib.Dec.{T}
 use lib.IntN.{ℤ, natAbs}
 use lib.ListN.{length, getD}
-use lib.Ieee.{Float, nan, le}
+use lib.Ieee.{Float, nan}
 use Rattle.base.specs.Grid.{Place, Axis, X, Y, Z, axisNumber}
-use Rattle.rules.specs.Edges.{float}
 use Rattle.rules.specs.Steps.{Triangle}
-use Rattle.rules.specs.Water.{offset}
+use Rattle.rules.specs.Water.{offset, InBox}
 use Rattle.water.specs.declared.Reference.{Reference}
 use Rattle.water.specs.declared.Offset.{Offset}
 
-abbrev pub placeOf : Reference → Place
-placeOf r = record { x = r .x; y = r .y; z = r .z }
+abbrev pub referencePlace : Reference → Place
+referencePlace r = record { x = r .x; y = r .y; z = r .z }
 
 -- an offset by its axis
 abbrev pub part : Offset → Axis → ℤ
@@ -30,10 +28,6 @@ taken reference points p = record { x = offset reference points p X; y = offset 
 abbrev pub Near : (Axis → ℤ) → Type 0
 Near v = (a : Axis) → natAbs (v a) ≤ 16384
 
--- a coordinate lies in the box
-abbrev pub InBox : Float → Type 0
-InBox v = T (le (float 0) v) × T (le v (float 1024))
-
 -- the slice has point p, and it lies in the box
 abbrev pub Placed : List Float → ℕ → Type 0
 Placed points p = (3 * p + 3 ≤ length points) × ((a : Axis) → InBox (getD points (3 * p + axisNumber a) nan))
@@ -43,13 +37,13 @@ abbrev pub triangleAt : List ℕ → ℕ → Triangle
 triangleAt triangles at = (getD triangles at 0, getD triangles (at + 1) 0, getD triangles (at + 2) 0)
 
 -- the slices have that triangle and its points
-pub record Drawn (points : List Float) (triangles : List ℕ) (at : ℕ) : Type 0 where
+pub record Held (points : List Float) (triangles : List ℕ) (at : ℕ) : Type 0 where
   pub room : at + 3 ≤ length triangles
   pub first : Placed points (getD triangles at 0)
   pub second : Placed points (getD triangles (at + 1) 0)
   pub third : Placed points (getD triangles (at + 2) 0)
 
--- the slices have m triangles, few enough, and their points
+-- the slices have m triangles, with their points, and few enough for 64 bits: four for each of 14,616 points
 pub record Summable (points : List Float) (triangles : List ℕ) (m : ℕ) : Type 0 where
   pub few : m ≤ 58464
-  pub drawn : (k : ℕ) → k < m → Drawn points triangles (3 * k)
+  pub drawn : (k : ℕ) → k < m → Held points triangles (3 * k)

@@ -5,12 +5,9 @@ ghost use mathlib.Core.Bool.{not};
 ghost use Prim.Native.Nat.{_+_, _*_, _≤_, _<_};
 ghost use lib.Dec.{T};
 ghost use lib.IntN.{pos, natAbs, _-ℤ_, _*ℤ_};
-ghost use lib.ListN.{length, getD};
-ghost use lib.Ieee.{nan};
-ghost use Rattle.base.specs.Grid.{X, Y, Z};
 ghost use Rattle.rules.specs.Closing.{trianglesIn};
-ghost use Rattle.rules.specs.Water.{sixteenths, determinant, sixfoldOf, sixfold, beyondBox};
-ghost use Rattle.water.specs.Corners.{placeOf, Near, part, taken, InBox, Placed, triangleAt, Drawn, Summable};
+ghost use Rattle.rules.specs.Water.{sixteenths, determinant, sixfoldOf, sixfold, beyondBox, InBox};
+ghost use Rattle.water.specs.Corners.{referencePlace, Near, part, taken, Placed, triangleAt, Held, Summable};
 
 // The point of the box, in whole units, that corners are taken from.
 pub struct Reference {
@@ -39,8 +36,8 @@ fn axis_offset(coordinate: f32, reference: u32) -> i64
 // A point of the slice, taken from the reference.
 fn corner(points: &[f32], p: u32, reference: Reference) -> Offset
     requires { ⌜ Placed (now points) p ⌝ }
-    requires { ⌜ T (not (beyondBox (placeOf reference))) ⌝ }
-    ensures { λ r. ⌜ r ≡ taken (placeOf reference) (now (points .entry)) p ⌝ }
+    requires { ⌜ T (not (beyondBox (referencePlace reference))) ⌝ }
+    ensures { λ r. ⌜ r ≡ taken (referencePlace reference) (now (points .entry)) p ⌝ }
 {
     let at = 3 * (p as usize);
     Offset {
@@ -50,8 +47,8 @@ fn corner(points: &[f32], p: u32, reference: Reference) -> Offset
     }
 }
 
-// The part of a determinant that belongs to one coordinate of the first corner, a.
-fn cofactor(a: i64, b: i64, c: i64, d: i64, e: i64) -> i64
+// The term of the determinant's expansion that has one coordinate of the first corner, a.
+fn term(a: i64, b: i64, c: i64, d: i64, e: i64) -> i64
     requires { ⌜ (natAbs a ≤ 16384) × (natAbs b ≤ 16384) × (natAbs c ≤ 16384) × (natAbs d ≤ 16384) × (natAbs e ≤ 16384) ⌝ }
     ensures { λ r. ⌜ r ≡ a *ℤ (b *ℤ c -ℤ d *ℤ e) ⌝ }
 {
@@ -63,16 +60,14 @@ fn determinant_of(a: Offset, b: Offset, c: Offset) -> i64
     requires { ⌜ Near (part a) × Near (part b) × Near (part c) ⌝ }
     ensures { λ r. ⌜ r ≡ determinant (part a) (part b) (part c) ⌝ }
 {
-    cofactor(a.x, b.y, c.z, b.z, c.y)
-        + cofactor(a.y, b.z, c.x, b.x, c.z)
-        + cofactor(a.z, b.x, c.y, b.y, c.x)
+    term(a.x, b.y, c.z, b.z, c.y) + term(a.y, b.z, c.x, b.x, c.z) + term(a.z, b.x, c.y, b.y, c.x)
 }
 
 // The determinant of the corners of the triangle whose numbers begin at an element of the slice.
 fn triangle(points: &[f32], triangles: &[u32], at: usize, reference: Reference) -> i64
-    requires { ⌜ Drawn (now points) (now triangles) at ⌝ }
-    requires { ⌜ T (not (beyondBox (placeOf reference))) ⌝ }
-    ensures { λ r. ⌜ r ≡ sixfoldOf (placeOf reference) (now (points .entry)) (triangleAt (now (triangles .entry)) at) ⌝ }
+    requires { ⌜ Held (now points) (now triangles) at ⌝ }
+    requires { ⌜ T (not (beyondBox (referencePlace reference))) ⌝ }
+    ensures { λ r. ⌜ r ≡ sixfoldOf (referencePlace reference) (now (points .entry)) (triangleAt (now (triangles .entry)) at) ⌝ }
 {
     determinant_of(
         corner(points, triangles[at], reference),
@@ -84,8 +79,8 @@ fn triangle(points: &[f32], triangles: &[u32], at: usize, reference: Reference) 
 // The sum over the first m triangles of a slice.
 pub fn sum(points: &[f32], triangles: &[u32], m: u32, reference: Reference) -> i64
     requires { ⌜ Summable (now points) (now triangles) m ⌝ }
-    requires { ⌜ T (not (beyondBox (placeOf reference))) ⌝ }
-    ensures { λ r. ⌜ r ≡ sixfold (placeOf reference) (now (points .entry)) (trianglesIn m (now (triangles .entry))) ⌝ }
+    requires { ⌜ T (not (beyondBox (referencePlace reference))) ⌝ }
+    ensures { λ r. ⌜ r ≡ sixfold (referencePlace reference) (now (points .entry)) (trianglesIn m (now (triangles .entry))) ⌝ }
 {
     let count = m as usize;
     let mut total: i64 = 0;

@@ -226,7 +226,8 @@ pub fn draw_to_vec(cells: &[u8], corners: &[u8], clearance: f32) -> Result<Mesh,
 ///
 /// # Errors
 ///
-/// The first refusal of 1 to 8, 12, 13, 9 and 10, in this order, that applies; else as for [`draw`].
+/// The first refusal of 1 to 8, 12, 13, 9 and 10, in this order, that applies; then neither slice was touched. With [`Refusal::PointSlice`] and
+/// [`Refusal::TriangleSlice`] come the counts that the drawing needs.
 pub fn volume(
     cells: &[u8],
     corners: &[u8],
@@ -237,7 +238,7 @@ pub fn volume(
 ) -> Result<Water, Refused> {
     let exported::Water { number, points, triangles, sixfold } =
         exported::volume(cells, corners, clearance, reference, points, triangles);
-    debug_assert!(number == 0 || sixfold == 0, "refusal {number} with a sum of {sixfold}");
+    assert!(number == 0 || sixfold == 0, "refusal {number} with a sum of {sixfold}");
     let counts = Counts { points, triangles };
     passed(number).map(|()| Water { counts, sixfold }).map_err(|refusal| Refused { refusal, counts })
 }

@@ -131,6 +131,7 @@ impl Seen {
         match refusals::of_drawing(survey) {
             0 => {
                 let Water { drawn, sixfold } = assert_reckoned(survey, seed, what);
+                // Not proved: seen of all surveys tried.
                 assert!(sixfold >= 0, "{what}: {sixfold}");
                 self.tally.add_drawn(drawn.points as usize);
                 self.spaces += u64::from(sixfold > 0);

@@ -48,6 +48,7 @@ fn random_surveys_hold_the_same_from_every_reference() {
             continue;
         }
         let (drawing, sixfold) = reckoned(&survey, seed, &what);
+        // Not proved: seen of all surveys tried.
         assert!(sixfold >= 0, "{what}: {sixfold}");
         tally.add_drawn(drawing.points.len() / 3);
         spaces += usize::from(sixfold > 0);

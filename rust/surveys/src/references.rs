@@ -50,7 +50,7 @@ mod tests {
         assert!(!beyond_box().iter().any(is_in_box));
     }
 
-    /// A reckoning that leaves an axis of the reference out, or looks at another, meets points that show it.
+    /// A check that leaves an axis out, or a reckoning that takes corners from different references, meets points that show it.
     #[test]
     fn points_show_every_axis() {
         let seen: Vec<[u32; 3]> = (0..100).flat_map(of_box).collect();

@@ -1,7 +1,7 @@
 -- `volume::reckon` meets its contract: refused before the slices are looked at, refused for them, or drawn and summed over.
-use mathlib.Core.Path.{_≡_, sym, _∙_, subst}
+use mathlib.Core.Path.{sym, _∙_, subst}
 use Rattle.base.proofs.Tests.{→false}
-use Rattle.water.specs.Corners.{placeOf}
+use Rattle.water.specs.Corners.{referencePlace}
 use Rattle.water.proofs.Signed.{kept}
 use Rattle.volume.proofs.Outcome.{can-draw, inside}
 use Rattle.volume.proofs.Reckoned.{Promised, can-sum, drawn-promised, short-promised, refused-promised}
@@ -34,7 +34,7 @@ returns : tie.Need-returns
 returns c =
     let r = c .before .before .before .before in
     let a = start r .args in
-    refused-promised (a .cells .now) (a .corners .now) (a .clearance) (a .points .now) (a .triangles .now) (placeOf (a .reference)) (r .refusal .result)
+    refused-promised (a .cells .now) (a .corners .now) (a .clearance) (a .points .now) (a .triangles .now) (referencePlace (a .reference)) (r .refusal .result)
     (r .refusal .ensures .0) (c .if1 .taken)
 
 slice-aggregate-draw-drawable : tie.Need-slice-aggregate-draw-drawable
@@ -51,7 +51,7 @@ draw-drawable-requires c κs =
     let e = c .before .before .before .before .before in
     let r = checked e in
     let a = start r .args in (
-      can-draw (a .cells .now) (a .corners .now) (a .clearance) (placeOf (a .reference)) (a .points .now) (a .triangles .now) (r .refusal .result)
+      can-draw (a .cells .now) (a .corners .now) (a .clearance) (referencePlace (a .reference)) (a .points .now) (a .triangles .now) (r .refusal .result)
           (r .refusal .ensures .0) (e .if1 .left),
       r .refusal .ensures .1 (e .if1 .left),
     )
@@ -71,9 +71,9 @@ returns-2 c =
     let e = passed d in
     let r = checked e in
     let a = start r .args in
-    subst (Promised (a .cells .now) (a .corners .now) (a .clearance) (a .points .now) (a .triangles .now) (placeOf (a .reference)) _ _)
+    subst (Promised (a .cells .now) (a .corners .now) (a .clearance) (a .points .now) (a .triangles .now) (referencePlace (a .reference)) _ _)
     (sym (c .with-volume .ensures))
-    (short-promised (a .cells .now) (a .corners .now) (a .clearance) (a .points .now) (a .triangles .now) (placeOf (a .reference)) (r .refusal .result)
+    (short-promised (a .cells .now) (a .corners .now) (a .clearance) (a .points .now) (a .triangles .now) (referencePlace (a .reference)) (r .refusal .result)
     (r .refusal .ensures .0) (e .if1 .left) (d .draw-drawable .result) _ _ (d .draw-drawable .ensures) (c .before .if2 .taken))
 
 sum-requires : tie.Need-sum-requires
@@ -84,7 +84,7 @@ sum-requires c κs =
     let a = start r .args in (
       can-sum (a .cells .now) (a .corners .now) (a .clearance) (a .points .now) (a .triangles .now) (d .draw-drawable .result) _ _ (d .draw-drawable .ensures)
           (c .before .before .if2 .left),
-      →false (inside (a .cells .now) (a .corners .now) (a .clearance) (placeOf (a .reference)) (a .points .now) (a .triangles .now) (r .refusal .result)
+      →false (inside (a .cells .now) (a .corners .now) (a .clearance) (referencePlace (a .reference)) (a .points .now) (a .triangles .now) (r .refusal .result)
           (r .refusal .ensures .0) (e .if1 .left)),
     )
 
@@ -104,10 +104,10 @@ returns-3 c =
     let r = checked e in
     let a = start r .args in
     let sum = c .before .sum in
-    subst (Promised (a .cells .now) (a .corners .now) (a .clearance) (a .points .now) (a .triangles .now) (placeOf (a .reference)) _ _)
+    subst (Promised (a .cells .now) (a .corners .now) (a .clearance) (a .points .now) (a .triangles .now) (referencePlace (a .reference)) _ _)
     (sym (c .with-volume2 .ensures))
     (drawn-promised (a .cells .now) (a .corners .now) (a .clearance) (a .points .now) (a .triangles .now) (d .draw-drawable .result) _ _
-    (d .draw-drawable .ensures) (c .before .before .before .before .if2 .left) (placeOf (a .reference)) _ (kept (sum .result) (sum .ok) ∙ sum .ensures)
+    (d .draw-drawable .ensures) (c .before .before .before .before .if2 .left) (referencePlace (a .reference)) _ (kept (sum .result) (sum .ok) ∙ sum .ensures)
     (r .refusal .result) (r .refusal .ensures .0) (e .if1 .left))
 
 pub reckon-spec : {M : Type 1} → statement M

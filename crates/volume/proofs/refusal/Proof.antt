@@ -1,7 +1,7 @@
 -- `volume::refusal` meets its contract: the reference is looked at where drawing's own checks find nothing to refuse.
 use mathlib.Core.Path.{sym, _∙_}
 use native.Mathlib.Omega.{arith}
-use Rattle.water.specs.Corners.{placeOf}
+use Rattle.water.specs.Corners.{referencePlace}
 use Rattle.volume.proofs.Outcome.{refused-earlier, refused-beyond, refused-not}
 use borrow.Author.Needs.{needs}
 use Rattle.volume.proofs.refusal.Statement.{statement}
@@ -29,7 +29,8 @@ returns : tie.Need-returns
 returns c =
     let r = c .before .before .before .before .before .before .before in
     let a = start r .args in (
-      refused-earlier (a .cells .now) (a .corners .now) (a .clearance) (placeOf (a .reference)) (r .refusal .result) (r .refusal .ensures .0) (c .if1 .taken),
+      refused-earlier (a .cells .now) (a .corners .now) (a .clearance) (referencePlace (a .reference)) (r .refusal .result)
+          (r .refusal .ensures .0) (c .if1 .taken),
       λ z. absurd (c .if1 .taken z),
     )
 
@@ -50,7 +51,8 @@ returns-2 c =
     let e = c .before .before in
     let r = checked e in
     let a = start r .args in (
-      refused-beyond (a .cells .now) (a .corners .now) (a .clearance) (placeOf (a .reference)) (r .refusal .result) (r .refusal .ensures .0) (e .if1 .left)
+      refused-beyond (a .cells .now) (a .corners .now) (a .clearance) (referencePlace (a .reference)) (r .refusal .result)
+          (r .refusal .ensures .0) (e .if1 .left)
           (sym (c .before .beyond .ensures) ∙ c .if2 .taken),
       λ z. absurd (omega arith),
     )
@@ -69,7 +71,8 @@ returns-3 c =
     let e = c .before .before in
     let r = checked e in
     let a = start r .args in (
-      refused-not (a .cells .now) (a .corners .now) (a .clearance) (placeOf (a .reference)) (r .refusal .result) (r .refusal .ensures .0) (e .if1 .left)
+      refused-not (a .cells .now) (a .corners .now) (a .clearance) (referencePlace (a .reference)) (r .refusal .result)
+          (r .refusal .ensures .0) (e .if1 .left)
           (sym (c .before .beyond .ensures) ∙ c .if2 .left),
       λ z. r .refusal .ensures .1 (e .if1 .left),
     )

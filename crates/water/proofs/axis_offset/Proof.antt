@@ -1,6 +1,6 @@
 -- `water::axis_offset` meets its contract: nothing is lost on the way to the sixteenths, nor in the difference.
 use Prim.Native.Nat.{ℕ, _*_, _≤_}
-use mathlib.Core.Path.{_≡_, sym, ap, _∙_, subst}
+use mathlib.Core.Path.{_≡_, ap, _∙_}
 use native.Mathlib.Omega.{arith}
 use lib.Dec.{T}
 use lib.IntN.{pos, _-ℤ_}

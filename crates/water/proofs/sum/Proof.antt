@@ -7,7 +7,7 @@ use mir.Syntax.{w64}
 use mir.Val.{SFits, toZ, ofZ}
 use Rattle.rules.specs.Closing.{trianglesIn}
 use Rattle.rules.specs.Water.{sixfold}
-use Rattle.water.specs.Corners.{placeOf}
+use Rattle.water.specs.Corners.{referencePlace}
 use Rattle.water.proofs.Signed.{back}
 use Rattle.water.proofs.Sums.{turn}
 use borrow.Author.Needs.{needs}
@@ -17,7 +17,7 @@ use Rattle.water.proofs.sum.Tie as tie
 -- the total is held as its bits
 abbrev Inv-loop : tie.InvT-loop
 Inv-loop points triangles m reference count total₀ k₀ total k =
-    let passed = sixfold (placeOf reference) points (trianglesIn k triangles) in
+    let passed = sixfold (referencePlace reference) points (trianglesIn k triangles) in
     (count ≡ m) × (k ≤ m) × (total ≡ ofZ w64 passed) × (natAbs passed ≤ k * (6 * 2 ^ 42))
 
 abbrev μ-loop : tie.MeasureT-loop
@@ -43,12 +43,12 @@ triangle-requires c κs =
 -- the turn that ends with this sum
 turned : (c : tie.After-triangle Inv-loop μ-loop) → let s = start (c .before .before) in
     let next = toZ w64 (c .before .before .loop .total) +ℤ toZ w64 (ofZ w64 (c .triangle .result)) in
-    let more = sixfold (placeOf (s .args .reference)) (s .args .points .now) (trianglesIn (c .before .before .loop .k + 1) (s .args .triangles .now)) in
+    let more = sixfold (referencePlace (s .args .reference)) (s .args .points .now) (trianglesIn (c .before .before .loop .k + 1) (s .args .triangles .now)) in
     SFits w64 next × (next ≡ more) × (natAbs more ≤ (c .before .before .loop .k + 1) * (6 * 2 ^ 42))
 turned c =
     let l = c .before .before in
     let s = start l in
-    turn (placeOf (s .args .reference)) (s .args .points .now) (s .args .triangles .now) (s .pre .1) (s .args .m) (l .loop .k) (l .loop .total)
+    turn (referencePlace (s .args .reference)) (s .args .points .now) (s .args .triangles .now) (s .pre .1) (s .args .m) (l .loop .k) (l .loop .total)
     (c .triangle .result) (s .pre .0) (less (c .before)) (l .loop .inv .2) (l .loop .inv .3) (c .triangle .ensures)
 
 add-total : tie.Need-add-total Inv-loop μ-loop
@@ -67,7 +67,7 @@ returns : tie.Need-returns Inv-loop μ-loop
 returns c =
     let l = c .before in
     let s = start l in
-    let r = placeOf (s .args .reference) in
+    let r = referencePlace (s .args .reference) in
     let sum = sixfold r (s .args .points .now) (trianglesIn (l .loop .k) (s .args .triangles .now)) in
     let all : l .loop .k ≡ s .args .m = omega arith in
     ap (toZ w64) (l .loop .inv .2) ∙ back sum (l .loop .k * (6 * 2 ^ 42)) (l .loop .inv .3) (omega (arith, s .pre .0 .few))

@@ -2,7 +2,7 @@
 use Prim.Native.Nat.{ℕ}
 use mathlib.Core.Path.{_≡_, sym, _∙_, subst}
 use Rattle.rules.specs.Water.{determinant, sixfoldOf}
-use Rattle.water.specs.Corners.{placeOf, Near, part, taken, Placed}
+use Rattle.water.specs.Corners.{referencePlace, Near, part, taken, Placed}
 use Rattle.water.proofs.Signed.{kept}
 use Rattle.water.proofs.Down.{taken-near}
 use Rattle.water.specs.declared.Offset.{Offset}
@@ -62,7 +62,7 @@ determinant-of-requires : tie.Need-determinant-of-requires
 determinant-of-requires c κs =
     let s = start (first (second c)) in
     let points = s .args .points .now in
-    let r = placeOf (s .args .reference) in
+    let r = referencePlace (s .args .reference) in
     let near : (o : Offset) (p : ℕ) → o ≡ taken r points p → Placed points p → Near (part o) =
     λ o p e placed. subst (λ (o : Offset). Near (part o)) (sym e) (taken-near r points p (s .pre .1) placed) in (
       near _ _ (first (second c) .corner .ensures) (s .pre .0 .first),

@@ -1,11 +1,11 @@
--- `water::cofactor` meets its contract: no product or difference on the way is too large for 64 bits.
+-- `water::term` meets its contract: no product or difference on the way is too large for 64 bits.
 use Prim.Native.Nat.{_^_}
 use lib.Dec.{lit<}
 use lib.IntN.{_-ℤ_, _*ℤ_}
 use Rattle.water.proofs.Signed.{size-times, fits, back}
-use Rattle.water.proofs.Sizes.{own, product, minor-size, cofactor-size}
-use Rattle.water.proofs.cofactor.Statement.{statement}
-use Rattle.water.proofs.cofactor.Tie as tie
+use Rattle.water.proofs.Sizes.{own, product, minor-size, term-size}
+use Rattle.water.proofs.term.Statement.{statement}
+use Rattle.water.proofs.term.Tie as tie
 
 mul-result : tie.Need-mul-result
 mul-result s =
@@ -47,7 +47,7 @@ mul-result-3 s =
       product (s .args .d) (s .args .e) d e,
       back minor (2 ^ 29) small (lit< tt),
     )
-    (fits (s .args .a *ℤ minor) (2 ^ 43) (cofactor-size (s .args .b) (s .args .c) (s .args .d) (s .args .e) b c d e (s .args .a) a) (lit< tt))
+    (fits (s .args .a *ℤ minor) (2 ^ 43) (term-size (s .args .b) (s .args .c) (s .args .d) (s .args .e) b c d e (s .args .a) a) (lit< tt))
 
 returns : tie.Need-returns
 returns s =
@@ -64,7 +64,7 @@ returns s =
       product (s .args .d) (s .args .e) d e,
       back minor (2 ^ 29) small (lit< tt),
     )
-    (back (s .args .a *ℤ minor) (2 ^ 43) (cofactor-size (s .args .b) (s .args .c) (s .args .d) (s .args .e) b c d e (s .args .a) a) (lit< tt))
+    (back (s .args .a *ℤ minor) (2 ^ 43) (term-size (s .args .b) (s .args .c) (s .args .d) (s .args .e) b c d e (s .args .a) a) (lit< tt))
 
-pub cofactor-spec : {M : Type 1} → statement M
-cofactor-spec = tie.close (tie.spec mul-result mul-result-2 sub-result mul-result-3 returns)
+pub term-spec : {M : Type 1} → statement M
+term-spec = tie.close (tie.spec mul-result mul-result-2 sub-result mul-result-3 returns)
