@@ -1,4 +1,5 @@
 pub mod Table
+pub mod Formula
 pub mod Patterns
 pub mod Rows
 pub mod Steps

@@ -1,2 +1,3 @@
 pub mod Patterns
+pub mod Formula
 pub mod Faces

@@ -6,36 +6,45 @@ ghost use lib.ListN.{length, getD};
 ghost use Rattle.base.specs.Lists.{bit};
 ghost use Rattle.trace.specs.Trace.{recorded};
 ghost use Rattle.faces.specs.Patterns.{rowDigit, wetDigit, stepFrom, firstEntry};
+ghost use Rattle.faces.specs.Formula.{entryEdges, wetToRight};
 ghost use Rattle.faces.specs.Faces.{rowCorner, rowEdge, rowPattern, edgeSteps, rowSteps, quarters, smallTableSteps, sideTableSteps};
 ghost use Rattle.faces.specs.Faces.{leafTableSteps, Fits, Roomy, Reaching};
 
-// For each of the sixteen wet patterns of a face (bit i: corner i is wet; corners go counter-clockwise, seen from outside the leaf), the edge to
-// which the step that enters by edge i goes; 4 where none enters. Edge i joins corner i and corner i + 1.
-const STEPS: [[u8; 4]; 16] = [
-    [4, 4, 4, 4],
-    [4, 4, 4, 0],
-    [1, 4, 4, 4],
-    [4, 4, 4, 1],
-    [4, 2, 4, 4],
-    [4, 2, 4, 0],
-    [2, 4, 4, 4],
-    [4, 4, 4, 2],
-    [4, 4, 3, 4],
-    [4, 4, 0, 4],
-    [1, 4, 3, 4],
-    [4, 4, 1, 4],
-    [4, 3, 4, 4],
-    [4, 0, 4, 4],
-    [3, 4, 4, 4],
-    [4, 4, 4, 4],
-];
+// The wet pattern of a face is a number below sixteen: bit i says that corner i is wet. Corners go counter-clockwise, seen from outside the leaf, and edge i
+// joins corner i and corner i + 1; both are counted round the face, so that 0 comes after 3.
 
-// The edge to which the step that enters by edge `edge` goes in a pattern, or 4.
+// The edges by which steps enter in a pattern, as bits. A step has wet corners to its right: where it enters by edge i, corner i, to its left, is dry and
+// corner i + 1, to its right, is wet.
+fn entry_edges(pattern: usize) -> usize
+    requires { ⌜ pattern < 16 ⌝ }
+    ensures { λ r. ⌜ (r ≡ entryEdges pattern) × (r < 16) ⌝ }
+{
+    let next = pattern / 2 + 8 * (pattern % 2);
+    next & (15 - pattern)
+}
+
+// How many wet corners a step has to its right. With two odd edges there is one step, and it has them all. With four, where opposite corners are alike,
+// each wet corner is cut off by its own step.
+fn wet_to_right(pattern: usize) -> usize
+    requires { ⌜ pattern < 16 ⌝ }
+    ensures { λ r. ⌜ (r ≡ wetToRight pattern) × (r ≤ 4) ⌝ }
+{
+    if pattern % 5 == 0 {
+        return 1;
+    }
+    pattern % 2 + pattern / 2 % 2 + pattern / 4 % 2 + pattern / 8
+}
+
+// The edge to which the step that enters by edge `edge` goes in a pattern, or 4 where none enters. The wet corners to its right are those from corner
+// `edge + 1` on, one after the other, and it leaves by the edge behind the last of them.
 pub fn step_from(pattern: usize, edge: usize) -> u8
     requires { ⌜ (pattern < 16) × (edge < 4) ⌝ }
     ensures { λ r. ⌜ r ≡ stepFrom pattern edge ⌝ }
 {
-    STEPS[pattern][edge]
+    if (entry_edges(pattern) >> edge) % 2 == 0 {
+        return 4;
+    }
+    ((edge + wet_to_right(pattern)) % 4) as u8
 }
 
 // A byte as an index.
@@ -136,7 +145,7 @@ fn first_entry(pattern: usize) -> usize
     requires { ⌜ pattern < 16 ⌝ }
     ensures { λ r. ⌜ r ≡ firstEntry pattern ⌝ }
 {
-    digits::digit(0x4011_2022_3011_3034, pattern)
+    usize::trailing_zeros(16 + entry_edges(pattern)) as usize
 }
 
 // Records the steps in a row of record m. None enters where all corners are wet or all are dry; else one enters by the first edge from a dry corner to a

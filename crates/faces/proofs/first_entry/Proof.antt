@@ -1,18 +1,26 @@
--- `faces::first_entry` meets its contract: the digits are the first edges of the sixteen patterns.
-use mathlib.Core.Path.{refl, _∙_}
+-- `faces::first_entry` meets its contract: the lowest digit of the edges by which steps enter.
+use mathlib.Core.Path.{ap, _∙_}
+use Prim.Native.Nat.{_+_}
+use lib.Count.{trailingZeros, trailing-le}
 use borrow.Author.Needs.{needs}
-use Rattle.digits.specs.Digits.{digitOf}
-use Rattle.faces.specs.Patterns.{stepFrom, firstEntry}
-use Rattle.base.proofs.Alike.{alike}
+use Rattle.faces.proofs.Formula.{first-is}
 use Rattle.faces.proofs.first_entry.Statement.{statement}
 use Rattle.faces.proofs.first_entry.Tie as tie
 
-digit-requires : tie.Need-digit-requires
-digit-requires c κs = search needs
+entry-edges-requires : tie.Need-entry-edges-requires
+entry-edges-requires c κs = search needs
+
+add-result : tie.Need-add-result
+add-result c = search needs
+
+cast-result : tie.Need-cast-result
+cast-result c =
+    let few = trailing-le 64 (16 + c .entry-edges .result) in
+    search needs
 
 returns : tie.Need-returns
-unfolding stepFrom firstEntry
-returns c = c .digit .ensures ∙ alike 0 16 (digitOf _) firstEntry refl (c .before .args .pattern) (c .before .pre)
+returns c =
+    ap (λ n. trailingZeros 64 (16 + n)) (c .entry-edges .ensures .0) ∙ first-is (c .before .args .pattern) (c .before .pre)
 
 pub first-entry-spec : {M : Type 1} → statement M
-first-entry-spec = tie.close (tie.spec digit-requires returns)
+first-entry-spec = tie.close (tie.spec entry-edges-requires add-result cast-result returns)

@@ -1,45 +1,52 @@
--- `faces::step_from` meets its contract: every entry of the table follows the rule.
-use mathlib.Core.List.{List, [], _∷_}
-use Prim.Native.Nat.{ℕ}
-use Rattle.faces.proofs.Table.{at-row}
-use Rattle.faces.specs.Patterns.{stepFrom}
+-- `faces::step_from` meets its contract: the formula is the rule.
+use mathlib.Core.Path.{_≡_, sym, ap, _∙_}
+use Prim.Native.Nat.{_+_, _/_, _%_, _^_}
 use borrow.Author.Needs.{needs}
+use Rattle.faces.specs.Formula.{entryEdges}
+use Rattle.faces.proofs.Formula.{no-step, step-goes}
 use Rattle.faces.proofs.step_from.Statement.{statement}
 use Rattle.faces.proofs.step_from.Tie as tie
 
--- the rows of STEPS
-rows : List (List ℕ)
-rows =
-    (4 ∷ 4 ∷ 4 ∷ 4 ∷ []) ∷
-    (4 ∷ 4 ∷ 4 ∷ 0 ∷ []) ∷
-    (1 ∷ 4 ∷ 4 ∷ 4 ∷ []) ∷
-    (4 ∷ 4 ∷ 4 ∷ 1 ∷ []) ∷
-    (4 ∷ 2 ∷ 4 ∷ 4 ∷ []) ∷
-    (4 ∷ 2 ∷ 4 ∷ 0 ∷ []) ∷
-    (2 ∷ 4 ∷ 4 ∷ 4 ∷ []) ∷
-    (4 ∷ 4 ∷ 4 ∷ 2 ∷ []) ∷
-    (4 ∷ 4 ∷ 3 ∷ 4 ∷ []) ∷
-    (4 ∷ 4 ∷ 0 ∷ 4 ∷ []) ∷
-    (1 ∷ 4 ∷ 3 ∷ 4 ∷ []) ∷
-    (4 ∷ 4 ∷ 1 ∷ 4 ∷ []) ∷
-    (4 ∷ 3 ∷ 4 ∷ 4 ∷ []) ∷
-    (4 ∷ 0 ∷ 4 ∷ 4 ∷ []) ∷
-    (3 ∷ 4 ∷ 4 ∷ 4 ∷ []) ∷
-    (4 ∷ 4 ∷ 4 ∷ 4 ∷ []) ∷
-    []
+-- the digit that is looked at
+digit-is : (c : tie.After-entry-edges)
+    → let a = c .before .args in c .entry-edges .result / 2 ^ a .edge % 2 ≡ entryEdges (a .pattern) / 2 ^ a .edge % 2
+digit-is c = ap (λ n. n / 2 ^ c .before .args .edge % 2) (c .entry-edges .ensures .0)
 
-mul-result : tie.Need-mul-result
-mul-result c = search needs
+entry-edges-requires : tie.Need-entry-edges-requires
+entry-edges-requires c κs = search needs
 
-index-1-result : tie.Need-index-1-result
-index-1-result c = search needs
-
-index-2-result : tie.Need-index-2-result
-index-2-result c = search needs
+shr-if1 : tie.Need-shr-if1
+shr-if1 c = search needs
 
 returns : tie.Need-returns
-unfolding rows stepFrom
-returns c = at-row stepFrom 4 rows tt (c .before .args .pattern) (c .before .args .edge) (search needs) (search needs)
+returns c =
+    let s = c .before .before in
+    no-step (s .args .pattern) (s .pre .0) (s .args .edge) (s .pre .1) (sym (digit-is (c .before)) ∙ c .if1 .taken)
+
+wet-to-right-requires : tie.Need-wet-to-right-requires
+wet-to-right-requires c κs = search needs
+
+add-result : tie.Need-add-result
+add-result c = search needs
+
+cast-result : tie.Need-cast-result
+cast-result c = search needs
+
+returns-2 : tie.Need-returns-2
+returns-2 c =
+    let e = c .before in
+    let s = e .before .before in
+    ap (λ n. (s .args .edge + n) % 4) (c .wet-to-right .ensures .0)
+    ∙ step-goes (s .args .pattern) (s .pre .0) (s .args .edge) (s .pre .1) (λ z. e .if1 .left (digit-is (e .before) ∙ z))
 
 pub step-from-spec : {M : Type 1} → statement M
-step-from-spec = tie.close (tie.spec mul-result index-1-result index-2-result returns)
+step-from-spec =
+    tie.close
+    (tie.spec
+    entry-edges-requires
+    shr-if1
+    returns
+    wet-to-right-requires
+    add-result
+    cast-result
+    returns-2)
