@@ -9,21 +9,21 @@ use lib.Count.{trailingZeros}
 use borrow.Author.Tests.{eq-eqb, ne-eqb}
 use Rattle.base.proofs.Alike.{alike}
 use Rattle.faces.specs.Patterns.{stepFrom, firstEntry}
-use Rattle.faces.specs.Formula.{entryEdges, wetToRight}
+use Rattle.faces.specs.Formula.{entryEdges, cornersToRight}
 use Rattle.faces.proofs.Table.{alike-rows}
 
 -- a step that enters by edge i goes as many edges on as it has wet corners to its right
-pub by-formula : (p i : ℕ) → p < 16 → i < 4 → cond (eqb (entryEdges p / 2 ^ i % 2) 0) 4 ((i + wetToRight p) % 4) ≡ stepFrom p i
-unfolding stepFrom entryEdges wetToRight
-by-formula = alike-rows (λ p i. cond (eqb (entryEdges p / 2 ^ i % 2) 0) 4 ((i + wetToRight p) % 4)) stepFrom refl
+pub by-formula : (p i : ℕ) → p < 16 → i < 4 → cond (eqb (entryEdges p / 2 ^ i % 2) 0) 4 ((i + cornersToRight p) % 4) ≡ stepFrom p i
+unfolding stepFrom entryEdges cornersToRight
+by-formula = alike-rows (λ p i. cond (eqb (entryEdges p / 2 ^ i % 2) 0) 4 ((i + cornersToRight p) % 4)) stepFrom refl
 
 module _ (p : ℕ) (h : p < 16) where
   module _ (i : ℕ) (l : i < 4) where
     pub no-step : entryEdges p / 2 ^ i % 2 ≡ 0 → 4 ≡ stepFrom p i
-    no-step z = ap (λ b. cond b 4 ((i + wetToRight p) % 4)) (sym (eq-eqb (entryEdges p / 2 ^ i % 2) 0 z)) ∙ by-formula p i h l
+    no-step z = ap (λ b. cond b 4 ((i + cornersToRight p) % 4)) (sym (eq-eqb (entryEdges p / 2 ^ i % 2) 0 z)) ∙ by-formula p i h l
 
-    pub step-goes : (entryEdges p / 2 ^ i % 2 ≡ 0 → ⊥) → (i + wetToRight p) % 4 ≡ stepFrom p i
-    step-goes o = ap (λ b. cond b 4 ((i + wetToRight p) % 4)) (sym (ne-eqb (entryEdges p / 2 ^ i % 2) 0 o)) ∙ by-formula p i h l
+    pub step-goes : (entryEdges p / 2 ^ i % 2 ≡ 0 → ⊥) → (i + cornersToRight p) % 4 ≡ stepFrom p i
+    step-goes o = ap (λ b. cond b 4 ((i + cornersToRight p) % 4)) (sym (ne-eqb (entryEdges p / 2 ^ i % 2) 0 o)) ∙ by-formula p i h l
 
   -- corner i + 1 is wet, and corner i dry
   pub entries-are : bitAnd (p / 2 + 8 * (p % 2)) (15 - p) ≡ entryEdges p
@@ -35,15 +35,16 @@ module _ (p : ℕ) (h : p < 16) where
   unfolding trailingZeros entryEdges stepFrom firstEntry
   first-is = alike 0 16 (λ p. trailingZeros 64 (16 + entryEdges p)) firstEntry refl p h
 
-  abbrev wetCorners : ℕ
-  wetCorners = p % 2 + p / 2 % 2 + p / 4 % 2 + p / 8
+  -- how many corners are wet
+  abbrev wet : ℕ
+  wet = p % 2 + p / 2 % 2 + p / 4 % 2 + p / 8
 
-  to-right : cond (eqb (p % 5) 0) 1 wetCorners ≡ wetToRight p
-  unfolding wetToRight
-  to-right = alike 0 16 (λ p. cond (eqb (p % 5) 0) 1 (p % 2 + p / 2 % 2 + p / 4 % 2 + p / 8)) wetToRight refl p h
+  to-right : cond (eqb (p % 4) (p / 4)) (wet / 2) wet ≡ cornersToRight p
+  unfolding cornersToRight
+  to-right = alike 0 16 (λ p. let w = p % 2 + p / 2 % 2 + p / 4 % 2 + p / 8 in cond (eqb (p % 4) (p / 4)) (w / 2) w) cornersToRight refl p h
 
-  pub one-to-right : p % 5 ≡ 0 → 1 ≡ wetToRight p
-  one-to-right z = ap (λ b. cond b 1 wetCorners) (sym (eq-eqb (p % 5) 0 z)) ∙ to-right
+  pub half-to-right : p % 4 ≡ p / 4 → wet / 2 ≡ cornersToRight p
+  half-to-right z = ap (λ b. cond b (wet / 2) wet) (sym (eq-eqb (p % 4) (p / 4) z)) ∙ to-right
 
-  pub all-to-right : (p % 5 ≡ 0 → ⊥) → wetCorners ≡ wetToRight p
-  all-to-right o = ap (λ b. cond b 1 wetCorners) (sym (ne-eqb (p % 5) 0 o)) ∙ to-right
+  pub all-to-right : (p % 4 ≡ p / 4 → ⊥) → wet ≡ cornersToRight p
+  all-to-right o = ap (λ b. cond b (wet / 2) wet) (sym (ne-eqb (p % 4) (p / 4) o)) ∙ to-right

@@ -1,6 +1,6 @@
--- Document 02, request 5: the steps of a face by a formula from its four wet marks. A step that enters by edge i leaves by edge i + `wetToRight`, counted
+-- Document 02, request 5: the steps of a face by a formula from its four wet marks. A step that enters by edge i leaves by edge i + `cornersToRight`, counted
 -- round the face; that this is document 01's rule, `stepFrom`, is proved as `by-formula`.
-use Prim.Native.Nat.{ℕ, _+_}
+use Prim.Native.Nat.{ℕ, _+_, _/_}
 use mathlib.Core.Bool.{Bool, not, _&&_, Bool·beq, cond}
 use Rattle.base.specs.Lists.{bit}
 use Rattle.faces.specs.Patterns.{wetBit, patternOf}
@@ -17,6 +17,10 @@ entryEdges p = patternOf (enters p 0) (enters p 1) (enters p 2) (enters p 3)
 abbrev pub oppositeAlike : ℕ → Bool
 oppositeAlike p = Bool·beq (wetBit p 0) (wetBit p 2) && Bool·beq (wetBit p 1) (wetBit p 3)
 
--- how many wet corners a step has to its right: with four odd edges the one that it cuts off, with two, where there is one step, all
-unfoldable pub wetToRight : ℕ → ℕ
-wetToRight p = cond (oppositeAlike p) 1 (bit (wetBit p 0) + bit (wetBit p 1) + bit (wetBit p 2) + bit (wetBit p 3))
+-- how many corners are wet
+abbrev pub wetCorners : ℕ → ℕ
+wetCorners p = bit (wetBit p 0) + bit (wetBit p 1) + bit (wetBit p 2) + bit (wetBit p 3)
+
+-- how many corners lie to the right of a step: with two odd edges, where there is one step, all wet ones; with four each of two steps cuts off one of two
+unfoldable pub cornersToRight : ℕ → ℕ
+cornersToRight p = cond (oppositeAlike p) (wetCorners p / 2) (wetCorners p)

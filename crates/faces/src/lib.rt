@@ -6,7 +6,7 @@ ghost use lib.ListN.{length, getD};
 ghost use Rattle.base.specs.Lists.{bit};
 ghost use Rattle.trace.specs.Trace.{recorded};
 ghost use Rattle.faces.specs.Patterns.{rowDigit, wetDigit, stepFrom, firstEntry};
-ghost use Rattle.faces.specs.Formula.{entryEdges, wetToRight};
+ghost use Rattle.faces.specs.Formula.{entryEdges, cornersToRight};
 ghost use Rattle.faces.specs.Faces.{rowCorner, rowEdge, rowPattern, edgeSteps, rowSteps, quarters, smallTableSteps, sideTableSteps};
 ghost use Rattle.faces.specs.Faces.{leafTableSteps, Fits, Roomy, Reaching};
 
@@ -23,16 +23,17 @@ fn entry_edges(pattern: usize) -> usize
     next & (15 - pattern)
 }
 
-// How many wet corners a step has to its right. With two odd edges there is one step, and it has them all. With four, where opposite corners are alike,
-// each wet corner is cut off by its own step.
-fn wet_to_right(pattern: usize) -> usize
+// How many corners lie to the right of a step, all wet. With two odd edges there is one step, and all wet corners lie there. With four, where corners 0 and 1
+// are as corners 2 and 3, two corners are wet, and each is cut off by its own step.
+fn corners_to_right(pattern: usize) -> usize
     requires { ⌜ pattern < 16 ⌝ }
-    ensures { λ r. ⌜ (r ≡ wetToRight pattern) × (r ≤ 4) ⌝ }
+    ensures { λ r. ⌜ (r ≡ cornersToRight pattern) × (r ≤ 4) ⌝ }
 {
-    if pattern % 5 == 0 {
-        return 1;
+    let wet = pattern % 2 + pattern / 2 % 2 + pattern / 4 % 2 + pattern / 8;
+    if pattern % 4 == pattern / 4 {
+        return wet / 2;
     }
-    pattern % 2 + pattern / 2 % 2 + pattern / 4 % 2 + pattern / 8
+    wet
 }
 
 // The edge to which the step that enters by edge `edge` goes in a pattern, or 4 where none enters. The wet corners to its right are those from corner
@@ -44,7 +45,7 @@ pub fn step_from(pattern: usize, edge: usize) -> u8
     if (entry_edges(pattern) >> edge) % 2 == 0 {
         return 4;
     }
-    ((edge + wet_to_right(pattern)) % 4) as u8
+    ((edge + corners_to_right(pattern)) % 4) as u8
 }
 
 // A byte as an index.
@@ -140,7 +141,7 @@ fn edge_step(crossings: &[u16], trace: &mut [u16], row: usize, m: usize, pattern
     trace::record_step(trace, from, to);
 }
 
-// The first edge by which a step enters in a pattern; 4 where none enters.
+// The first edge by which a step enters in a pattern; 4, for which bit 4 is set, where none enters.
 fn first_entry(pattern: usize) -> usize
     requires { ⌜ pattern < 16 ⌝ }
     ensures { λ r. ⌜ r ≡ firstEntry pattern ⌝ }

@@ -1,11 +1,16 @@
 -- `faces::first_entry` meets its contract: the lowest digit of the edges by which steps enter.
 use mathlib.Core.Path.{ap, _∙_}
-use Prim.Native.Nat.{_+_}
+use Prim.Native.Nat.{ℕ, _+_, _^_, _<_}
+use native.Mathlib.Omega.{arith}
 use lib.Count.{trailingZeros, trailing-le}
 use borrow.Author.Needs.{needs}
 use Rattle.faces.proofs.Formula.{first-is}
 use Rattle.faces.proofs.first_entry.Statement.{statement}
 use Rattle.faces.proofs.first_entry.Tie as tie
+
+-- a count of digits fits
+counted : (n : ℕ) → trailingZeros 64 n < 2 ^ 64
+counted n = omega (arith, trailing-le 64 n)
 
 entry-edges-requires : tie.Need-entry-edges-requires
 entry-edges-requires c κs = search needs
@@ -14,9 +19,7 @@ add-result : tie.Need-add-result
 add-result c = search needs
 
 cast-result : tie.Need-cast-result
-cast-result c =
-    let few = trailing-le 64 (16 + c .entry-edges .result) in
-    search needs
+cast-result c = search (needs, counted)
 
 returns : tie.Need-returns
 returns c =

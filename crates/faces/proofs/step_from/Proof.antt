@@ -23,8 +23,8 @@ returns c =
     let s = c .before .before in
     no-step (s .args .pattern) (s .pre .0) (s .args .edge) (s .pre .1) (sym (digit-is (c .before)) ∙ c .if1 .taken)
 
-wet-to-right-requires : tie.Need-wet-to-right-requires
-wet-to-right-requires c κs = search needs
+corners-to-right-requires : tie.Need-corners-to-right-requires
+corners-to-right-requires c κs = search needs
 
 add-result : tie.Need-add-result
 add-result c = search needs
@@ -36,7 +36,7 @@ returns-2 : tie.Need-returns-2
 returns-2 c =
     let e = c .before in
     let s = e .before .before in
-    ap (λ n. (s .args .edge + n) % 4) (c .wet-to-right .ensures .0)
+    ap (λ n. (s .args .edge + n) % 4) (c .corners-to-right .ensures .0)
     ∙ step-goes (s .args .pattern) (s .pre .0) (s .args .edge) (s .pre .1) (λ z. e .if1 .left (digit-is (e .before) ∙ z))
 
 pub step-from-spec : {M : Type 1} → statement M
@@ -46,7 +46,7 @@ step-from-spec =
     entry-edges-requires
     shr-if1
     returns
-    wet-to-right-requires
+    corners-to-right-requires
     add-result
     cast-result
     returns-2)
