@@ -1,50 +1,43 @@
--- The formula for the step in a pattern: its parts, as the code has them, are their definitions, and the whole is document 01's rule. Computed tests over
--- the sixteen patterns.
+-- Document 02, request 5: the step in a pattern by the code's formula is the one by document 01's rule. Computed tests over the sixteen patterns.
 use Prim.Native.Nat.{ℕ, _+_, _*_, _-_, _/_, _%_, _^_, _<_}
 use mathlib.Core.Path.{_≡_, refl, sym, ap, _∙_}
 use mathlib.Core.Bool.{cond}
+use native.Mathlib.Omega.{arith}
 use lib.Dec.{eqb}
 use lib.Bits.{bitAnd}
-use lib.Count.{trailingZeros}
+use lib.Count.{trailingZeros, trailing-le}
 use borrow.Author.Tests.{eq-eqb, ne-eqb}
 use Rattle.base.proofs.Alike.{alike}
 use Rattle.faces.specs.Patterns.{stepFrom, firstEntry}
-use Rattle.faces.specs.Formula.{entryEdges, cornersToRight}
 use Rattle.faces.proofs.Table.{alike-rows}
 
--- a step that enters by edge i goes as many edges on as it has wet corners to its right
-pub by-formula : (p i : ℕ) → p < 16 → i < 4 → cond (eqb (entryEdges p / 2 ^ i % 2) 0) 4 ((i + cornersToRight p) % 4) ≡ stepFrom p i
-unfolding stepFrom entryEdges cornersToRight
-by-formula = alike-rows (λ p i. cond (eqb (entryEdges p / 2 ^ i % 2) 0) 4 ((i + cornersToRight p) % 4)) stepFrom refl
+-- the wet marks from corner i on
+abbrev marks : ℕ → ℕ → ℕ
+marks p i = 17 * p / 2 ^ i
 
-module _ (p : ℕ) (h : p < 16) where
-  module _ (i : ℕ) (l : i < 4) where
-    pub no-step : entryEdges p / 2 ^ i % 2 ≡ 0 → 4 ≡ stepFrom p i
-    no-step z = ap (λ b. cond b 4 ((i + cornersToRight p) % 4)) (sym (eq-eqb (entryEdges p / 2 ^ i % 2) 0 z)) ∙ by-formula p i h l
+-- how many corners are wet in a row, from the one after corner i on: up to the lowest digit that is 0
+abbrev wetToRight : ℕ → ℕ → ℕ
+wetToRight p i = trailingZeros 64 (2 ^ 64 - 1 - marks p i / 2)
 
-    pub step-goes : (entryEdges p / 2 ^ i % 2 ≡ 0 → ⊥) → (i + cornersToRight p) % 4 ≡ stepFrom p i
-    step-goes o = ap (λ b. cond b 4 ((i + cornersToRight p) % 4)) (sym (ne-eqb (entryEdges p / 2 ^ i % 2) 0 o)) ∙ by-formula p i h l
+by-formula : (p i : ℕ) → p < 16 → i < 4 → cond (eqb (marks p i % 4) 2) ((i + wetToRight p i) % 4) 4 ≡ stepFrom p i
+unfolding trailingZeros stepFrom
+by-formula = alike-rows (λ p i. cond (eqb (marks p i % 4) 2) ((i + wetToRight p i) % 4) 4) stepFrom refl
 
-  -- corner i + 1 is wet, and corner i dry
-  pub entries-are : bitAnd (p / 2 + 8 * (p % 2)) (15 - p) ≡ entryEdges p
-  unfolding entryEdges
-  entries-are = alike 0 16 (λ p. bitAnd (p / 2 + 8 * (p % 2)) (15 - p)) entryEdges refl p h
+module _ (p i : ℕ) (h : p < 16) (l : i < 4) where
+  pub step-enters : marks p i % 4 ≡ 2 → (i + wetToRight p i) % 4 ≡ stepFrom p i
+  step-enters e = ap (λ b. cond b ((i + wetToRight p i) % 4) 4) (sym (eq-eqb (marks p i % 4) 2 e)) ∙ by-formula p i h l
 
-  -- the lowest digit; 16 stands for none
-  pub first-is : trailingZeros 64 (16 + entryEdges p) ≡ firstEntry p
-  unfolding trailingZeros entryEdges stepFrom firstEntry
-  first-is = alike 0 16 (λ p. trailingZeros 64 (16 + entryEdges p)) firstEntry refl p h
+  pub no-step : (marks p i % 4 ≡ 2 → ⊥) → 4 ≡ stepFrom p i
+  no-step n = ap (λ b. cond b ((i + wetToRight p i) % 4) 4) (sym (ne-eqb (marks p i % 4) 2 n)) ∙ by-formula p i h l
 
-  -- how many corners are wet
-  abbrev wet : ℕ
-  wet = p % 2 + p / 2 % 2 + p / 4 % 2 + p / 8
+-- the lowest digit at which a corner is dry and the next one wet
+pub by-lowest : (p : ℕ) → p < 16 → trailingZeros 64 (16 + bitAnd (17 * p / 2) (15 - p)) ≡ firstEntry p
+unfolding trailingZeros stepFrom firstEntry
+by-lowest = alike 0 16 (λ p. trailingZeros 64 (16 + bitAnd (17 * p / 2) (15 - p))) firstEntry refl
 
-  to-right : cond (eqb (p % 4) (p / 4)) (wet / 2) wet ≡ cornersToRight p
-  unfolding cornersToRight
-  to-right = alike 0 16 (λ p. let w = p % 2 + p / 2 % 2 + p / 4 % 2 + p / 8 in cond (eqb (p % 4) (p / 4)) (w / 2) w) cornersToRight refl p h
+-- a count of digits fits, and so does one added to an edge
+pub count-fits : (n : ℕ) → trailingZeros 64 n < 2 ^ 64
+count-fits n = omega (arith, trailing-le 64 n)
 
-  pub half-to-right : p % 4 ≡ p / 4 → wet / 2 ≡ cornersToRight p
-  half-to-right z = ap (λ b. cond b (wet / 2) wet) (sym (eq-eqb (p % 4) (p / 4) z)) ∙ to-right
-
-  pub all-to-right : (p % 4 ≡ p / 4 → ⊥) → wet ≡ cornersToRight p
-  all-to-right o = ap (λ b. cond b (wet / 2) wet) (sym (ne-eqb (p % 4) (p / 4) o)) ∙ to-right
+pub edge-fits : (i n : ℕ) → i < 4 → i + trailingZeros 64 n < 2 ^ 64
+edge-fits i n l = omega (arith, l, trailing-le 64 n)

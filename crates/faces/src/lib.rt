@@ -6,46 +6,25 @@ ghost use lib.ListN.{length, getD};
 ghost use Rattle.base.specs.Lists.{bit};
 ghost use Rattle.trace.specs.Trace.{recorded};
 ghost use Rattle.faces.specs.Patterns.{rowDigit, wetDigit, stepFrom, firstEntry};
-ghost use Rattle.faces.specs.Formula.{entryEdges, cornersToRight};
 ghost use Rattle.faces.specs.Faces.{rowCorner, rowEdge, rowPattern, edgeSteps, rowSteps, quarters, smallTableSteps, sideTableSteps};
 ghost use Rattle.faces.specs.Faces.{leafTableSteps, Fits, Roomy, Reaching};
 
 // The wet pattern of a face is a number below sixteen: bit i says that corner i is wet. Corners go counter-clockwise, seen from outside the leaf, and edge i
-// joins corner i and corner i + 1; both are counted round the face, so that 0 comes after 3.
+// joins corner i and corner i + 1. Both are counted round the face, after 3 comes 0: 17 * pattern has the four wet marks twice.
 
-// The edges by which steps enter in a pattern, as bits. A step has wet corners to its right: where it enters by edge i, corner i, to its left, is dry and
-// corner i + 1, to its right, is wet.
-fn entry_edges(pattern: usize) -> usize
-    requires { ⌜ pattern < 16 ⌝ }
-    ensures { λ r. ⌜ (r ≡ entryEdges pattern) × (r < 16) ⌝ }
-{
-    let next = pattern / 2 + 8 * (pattern % 2);
-    next & (15 - pattern)
-}
-
-// How many corners lie to the right of a step, all wet. With two odd edges there is one step, and all wet corners lie there. With four, where corners 0 and 1
-// are as corners 2 and 3, two corners are wet, and each is cut off by its own step.
-fn corners_to_right(pattern: usize) -> usize
-    requires { ⌜ pattern < 16 ⌝ }
-    ensures { λ r. ⌜ (r ≡ cornersToRight pattern) × (r ≤ 4) ⌝ }
-{
-    let wet = pattern % 2 + pattern / 2 % 2 + pattern / 4 % 2 + pattern / 8;
-    if pattern % 4 == pattern / 4 {
-        return wet / 2;
-    }
-    wet
-}
-
-// The edge to which the step that enters by edge `edge` goes in a pattern, or 4 where none enters. The wet corners to its right are those from corner
-// `edge + 1` on, one after the other, and it leaves by the edge behind the last of them.
+// The edge to which the step that enters by edge `edge` goes in a pattern, or 4 where none enters. Seen from outside, the step has corner `edge` to its left
+// and corner `edge + 1` to its right: it enters if the first is dry and the second wet. It goes round the wet corners to its right and leaves by the edge
+// before the first dry one. So with four odd edges each wet corner is cut off by its own step.
 pub fn step_from(pattern: usize, edge: usize) -> u8
     requires { ⌜ (pattern < 16) × (edge < 4) ⌝ }
     ensures { λ r. ⌜ r ≡ stepFrom pattern edge ⌝ }
 {
-    if (entry_edges(pattern) >> edge) % 2 == 0 {
+    let marks = (17 * pattern) >> edge;
+    if marks % 4 != 2 {
         return 4;
     }
-    ((edge + corners_to_right(pattern)) % 4) as u8
+    let wet_to_right = usize::trailing_zeros(!(marks / 2)) as usize;
+    ((edge + wet_to_right) % 4) as u8
 }
 
 // A byte as an index.
@@ -141,12 +120,13 @@ fn edge_step(crossings: &[u16], trace: &mut [u16], row: usize, m: usize, pattern
     trace::record_step(trace, from, to);
 }
 
-// The first edge by which a step enters in a pattern; 4, for which bit 4 is set, where none enters.
+// The first edge by which a step enters in a pattern, from a dry corner to a wet one; 4, for which 16 is added, where none enters.
 fn first_entry(pattern: usize) -> usize
     requires { ⌜ pattern < 16 ⌝ }
     ensures { λ r. ⌜ r ≡ firstEntry pattern ⌝ }
 {
-    usize::trailing_zeros(16 + entry_edges(pattern)) as usize
+    let next = 17 * pattern / 2;
+    usize::trailing_zeros(16 + (next & (15 - pattern))) as usize
 }
 
 // Records the steps in a row of record m. None enters where all corners are wet or all are dry; else one enters by the first edge from a dry corner to a

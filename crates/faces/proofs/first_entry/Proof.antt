@@ -1,29 +1,28 @@
--- `faces::first_entry` meets its contract: the lowest digit of the edges by which steps enter.
-use mathlib.Core.Path.{ap, _∙_}
-use Prim.Native.Nat.{ℕ, _+_, _^_, _<_}
-use native.Mathlib.Omega.{arith}
-use lib.Count.{trailingZeros, trailing-le}
+-- `faces::first_entry` meets its contract: the lowest digit at which a step enters.
+use Prim.Native.Nat.{_*_, _-_, _/_}
+use lib.Bits.{and-le-r}
 use borrow.Author.Needs.{needs}
-use Rattle.faces.proofs.Formula.{first-is}
+use Rattle.faces.proofs.Formula.{by-lowest, count-fits}
 use Rattle.faces.proofs.first_entry.Statement.{statement}
 use Rattle.faces.proofs.first_entry.Tie as tie
 
--- a count of digits fits
-counted : (n : ℕ) → trailingZeros 64 n < 2 ^ 64
-counted n = omega (arith, trailing-le 64 n)
+mul-next : tie.Need-mul-next
+mul-next c = search needs
 
-entry-edges-requires : tie.Need-entry-edges-requires
-entry-edges-requires c κs = search needs
+sub-result : tie.Need-sub-result
+sub-result c = search needs
 
 add-result : tie.Need-add-result
-add-result c = search needs
+add-result c =
+    let p = c .args .pattern in
+    let few = and-le-r (17 * p / 2) (15 - p) in
+    search needs
 
 cast-result : tie.Need-cast-result
-cast-result c = search (needs, counted)
+cast-result c = search (needs, count-fits)
 
 returns : tie.Need-returns
-returns c =
-    ap (λ n. trailingZeros 64 (16 + n)) (c .entry-edges .ensures .0) ∙ first-is (c .before .args .pattern) (c .before .pre)
+returns c = by-lowest (c .args .pattern) (c .pre)
 
 pub first-entry-spec : {M : Type 1} → statement M
-first-entry-spec = tie.close (tie.spec entry-edges-requires add-result cast-result returns)
+first-entry-spec = tie.close (tie.spec mul-next sub-result add-result cast-result returns)
