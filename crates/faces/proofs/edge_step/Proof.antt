@@ -1,4 +1,4 @@
--- `faces::edge_step` meets its contract: the table of sixteen says where the step goes, if there is one.
+-- `faces::edge_step` meets its contract: `step_from` says where the step goes, if there is one.
 use denote.Ref.{now}
 use Prim.Native.Nat.{ℕ, _+_, _*_}
 use mathlib.Core.Path.{ap, _∙_}
