@@ -5,6 +5,7 @@ use Prim.Native.Nat.{ℕ, _<_}
 use Rattle.base.specs.Lists.{count}
 use Rattle.base.proofs.Alike.{Alike, alike}
 
+-- row r of f: its values at 0 to 3
 abbrev pub row : (ℕ → ℕ → ℕ) → ℕ → List ℕ
 row f r = map (f r) (count 0 4)
 

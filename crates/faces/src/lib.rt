@@ -10,21 +10,23 @@ ghost use Rattle.faces.specs.Faces.{rowCorner, rowEdge, rowPattern, edge
 ghost use Rattle.faces.specs.Faces.{leafTableSteps, Fits, Roomy, Reaching};
 
 // The wet pattern of a face is a number below sixteen: bit i says that corner i is wet. Corners go counter-clockwise, seen from outside the leaf, and edge i
-// joins corner i and corner i + 1. Both are counted round the face, so that 0 comes after 3: 17 * pattern has the four wet marks twice, one after the other.
+// joins corner i and corner i + 1. Both are counted round the face, so that 0 comes after 3: 17 * pattern, which is pattern + 16 * pattern, has the four wet
+// marks twice, one after the other.
 
-// The edge to which the step that enters by edge `edge` goes in a pattern, or 4 where none enters. Seen from outside, a step that enters there has corner
-// `edge` to its left and corner `edge + 1` to its right: the one must be dry and the other wet. It goes round the wet corners to its right and leaves by the
-// edge before the first dry one. So with four odd edges each wet corner is cut off by its own step.
+// The edge to which the step that enters by edge `edge` goes in a pattern, or 4 where none enters. Wet corners lie to the right of a step. Seen from outside,
+// one that enters there has corner `edge` to its left and corner `edge + 1` to its right: so the first is dry and the second wet. It goes round the wet
+// corners that follow and leaves by the edge before the first dry one, which is corner `edge` again if no other is. So with four odd edges each wet corner is
+// cut off by its own step.
 pub fn step_from(pattern: usize, edge: usize) -> u8
     requires { ⌜ (pattern < 16) × (edge < 4) ⌝ }
     ensures { λ r. ⌜ r ≡ stepFrom pattern edge ⌝ }
 {
-    // the wet marks from corner `edge` on; as a number, a dry one and then a wet one are 2
+    // The wet marks from corner `edge` on, the first one lowest: if it is 0 and the second 1, both are 2 as a number.
     let marks = (17 * pattern) >> edge;
     if marks % 4 != 2 {
         return 4;
     }
-    // after the first they are 1 up to the first dry corner
+    // Without the first mark the wet corners in a row are 1s at the low end: `!` makes them 0s, which are counted.
     let wet_to_right = usize::trailing_zeros(!(marks / 2)) as usize;
     ((edge + wet_to_right) % 4) as u8
 }
@@ -122,8 +124,8 @@ fn edge_step(crossings: &[u16], trace: &mut [u16], row: usize, m: usize, pattern
     trace::record_step(trace, from, to);
 }
 
-// The first edge by which a step enters in a pattern; 4 where none enters. One enters by edge i if corner i is dry and corner i + 1, of which bit i of `next`
-// tells, is wet; 16 stands for none.
+// The first edge by which a step enters in a pattern; 4 where none enters. Bit i of `next` says that corner i + 1 is wet, and bit i of 15 - pattern that corner
+// i is dry: a step enters by edge i where both are set. The lowest such bit is found; 16 is bit 4, found where there is none.
 fn first_entry(pattern: usize) -> usize
     requires { ⌜ pattern < 16 ⌝ }
     ensures { λ r. ⌜ r ≡ firstEntry pattern ⌝ }

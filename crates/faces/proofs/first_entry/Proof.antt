@@ -1,8 +1,6 @@
 -- `faces::first_entry` meets its contract: the lowest digit at which a step enters.
-use Prim.Native.Nat.{_*_, _-_, _/_}
-use lib.Bits.{and-le-r}
 use borrow.Author.Needs.{needs}
-use Rattle.faces.proofs.Formula.{by-lowest, count-fits}
+use Rattle.faces.proofs.Formula.{by-lowest, count-fits, lowest-fits}
 use Rattle.faces.proofs.first_entry.Statement.{statement}
 use Rattle.faces.proofs.first_entry.Tie as tie
 
@@ -13,10 +11,7 @@ sub-result : tie.Need-sub-result
 sub-result c = search needs
 
 add-result : tie.Need-add-result
-add-result c =
-    let p = c .args .pattern in
-    let few = and-le-r (17 * p / 2) (15 - p) in
-    search needs
+add-result c = search (needs, lowest-fits)
 
 cast-result : tie.Need-cast-result
 cast-result c = search (needs, count-fits)
