@@ -14,14 +14,14 @@ ghost use Rattle.faces.specs.Faces.{leafTableSteps, Fits, Roomy, Reachin
 // marks twice, one after the other.
 
 // The edge to which the step that enters by edge `edge` goes in a pattern, or 4 where none enters. Wet corners lie to the right of a step. Seen from outside,
-// one that enters there has corner `edge` to its left and corner `edge + 1` to its right: so the first is dry and the second wet. It goes round the wet
-// corners that follow and leaves by the edge before the first dry one, which is corner `edge` again if no other is. So with four odd edges each wet corner is
-// cut off by its own step.
+// a step that enters there has corner `edge` to its left and corner `edge + 1` to its right: so the first is dry and the second wet. It goes round the wet
+// corners that follow and leaves by the edge before the first dry one, which is corner `edge` again if no other is dry. So with four odd edges each wet corner
+// is cut off by its own step.
 pub fn step_from(pattern: usize, edge: usize) -> u8
     requires { ⌜ (pattern < 16) × (edge < 4) ⌝ }
     ensures { λ r. ⌜ r ≡ stepFrom pattern edge ⌝ }
 {
-    // The wet marks from corner `edge` on, the first one lowest: if it is 0 and the second 1, both are 2 as a number.
+    // The wet marks from corner `edge` on, the first one lowest: if it is 0 and the second 1, the two are 2 as a number.
     let marks = (17 * pattern) >> edge;
     if marks % 4 != 2 {
         return 4;
