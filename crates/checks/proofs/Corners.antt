@@ -13,7 +13,7 @@ use Rattle.base.proofs.Tests.{tests-equal, →true, eq→eqb}
 use Rattle.base.proofs.Lists.{in-get, position-of}
 use Rattle.base.proofs.Places.{same→, same-refl}
 use Rattle.base.proofs.Octants.{octant→}
-use Rattle.rules.specs.Survey.{Cell, entries, cellsOf, cellCorners, cornerRecord, placeOf}
+use Rattle.rules.specs.Survey.{recordCount, Cell, entries, cellsOf, cellCorners, cornerRecord, placeOf}
 use Rattle.rules.specs.Outputs.{entriesRight, rising, cornersRight}
 use Rattle.octree.proofs.Queue.{box}
 use Rattle.octree.proofs.Records.{cell-count}
@@ -29,19 +29,19 @@ use Rattle.checks.proofs.Marking.{mark-at}
 
 module _ (t : List ℕ) (b : Bytes t) where
   -- a place is listed where the look-up finds a record
-  pub listed-is : (p : Place) → Short p → any (same p) (placesOf t) ≡ ltb (recordAt t (keyOf p)) (length t / 10)
+  pub listed-is : (p : Place) → Short p → any (same p) (placesOf t) ≡ ltb (recordAt t (keyOf p)) (recordCount t)
   listed-is p s =
-      tests-equal (any (same p) (placesOf t)) (ltb (recordAt t (keyOf p)) (length t / 10))
-      (λ l. lt→ltb (recordAt t (keyOf p)) (length t / 10) (listed-found t b p s l))
-      (λ f. found-listed t b p s (ltb→lt (recordAt t (keyOf p)) (length t / 10) f))
+      tests-equal (any (same p) (placesOf t)) (ltb (recordAt t (keyOf p)) (recordCount t))
+      (λ l. lt→ltb (recordAt t (keyOf p)) (recordCount t) (listed-found t b p s l))
+      (λ f. found-listed t b p s (ltb→lt (recordAt t (keyOf p)) (recordCount t) f))
 
   module _ (up : rising (placesOf t) ≡ true) where
     -- the look-up by the key of a record finds that record
-    own-record : (k : ℕ) → k < length t / 10 → k ≡ recordAt t (keyAt t k)
+    own-record : (k : ℕ) → k < recordCount t → k ≡ recordAt t (keyAt t k)
     own-record k h = is-at t (keyAt t k) k h refl (λ j l. keys-rise t b up j k l h)
 
     -- record k is at a place where the look-up finds record k
-    pub record-is : (k : ℕ) (p : Place) → Short p → k < length t / 10 → same (getD (placesOf t) k (placeOf nowhere)) p ≡ eqb k (recordAt t (keyOf p))
+    pub record-is : (k : ℕ) (p : Place) → Short p → k < recordCount t → same (getD (placesOf t) k (placeOf nowhere)) p ≡ eqb k (recordAt t (keyOf p))
     record-is k p s h = rw (get-place t k h) (tests-equal (same here p) (eqb k (recordAt t (keyOf p))) forth back)
       where
         here : Place
@@ -95,28 +95,28 @@ module _ (tc tk table : List ℕ) (three : T (entriesRight 0 0 (entries tc))) (l
   inside : (n : ℕ) → n < length (cellsOf tc) → Entered tc table n
   inside n h = laid .entered n (omega (arith, cell-count tc three))
 
-  cell-listed : (n : ℕ) → n < length (cellsOf tc) → listed (cellAt tc n) ≡ all (λ k. ltb k (length tk / 10)) (numbersAt n)
+  cell-listed : (n : ℕ) → n < length (cellsOf tc) → listed (cellAt tc n) ≡ all (λ k. ltb k (recordCount tk)) (numbersAt n)
   unfolding cornerNumbers
   cell-listed n h =
-      all-count (λ p. any (same p) (placesOf tk)) origin (λ i. ltb (recordAt tk (keyIn table n + octantKey i (2 ^ levelIn table n))) (length tk / 10))
+      all-count (λ p. any (same p) (placesOf tk)) origin (λ i. ltb (recordAt tk (keyIn table n + octantKey i (2 ^ levelIn table n))) (recordCount tk))
       (cellCorners (cellAt tc n)) 0
       (λ i k. listed-is tk b (corner tc n i) (corner-short tc table n (inside n h) i k)
-      ∙ ap (λ z. ltb (recordAt tk z) (length tk / 10)) (sym (corner-key tc table n (inside n h) i k))
-      ∙ ap (λ j. ltb (recordAt tk (keyIn table n + octantKey j (2 ^ levelIn table n))) (length tk / 10)) (let e : i ≡ 0 + i = omega arith in e))
-      ∙ sym (all-map (λ k. ltb k (length tk / 10)) (λ i. recordAt tk (keyIn table n + octantKey i (2 ^ levelIn table n))) (count 0 8))
+      ∙ ap (λ z. ltb (recordAt tk z) (recordCount tk)) (sym (corner-key tc table n (inside n h) i k))
+      ∙ ap (λ j. ltb (recordAt tk (keyIn table n + octantKey j (2 ^ levelIn table n))) (recordCount tk)) (let e : i ≡ 0 + i = omega arith in e))
+      ∙ sym (all-map (λ k. ltb k (recordCount tk)) (λ i. recordAt tk (keyIn table n + octantKey i (2 ^ levelIn table n))) (count 0 8))
 
   -- every corner of every cell is listed where every look-up finds a record
-  pub all-listed : all listed (cellsOf tc) ≡ all (λ k. ltb k (length tk / 10)) (allNumbers tk table (length tc / 4))
+  pub all-listed : all listed (cellsOf tc) ≡ all (λ k. ltb k (recordCount tk)) (allNumbers tk table (length tc / 4))
   unfolding allNumbers
   all-listed =
-      all-count listed box (λ n. all (λ k. ltb k (length tk / 10)) (numbersAt n)) (cellsOf tc) 0
-      (λ n h. cell-listed n h ∙ ap (λ m. all (λ k. ltb k (length tk / 10)) (numbersAt m)) (let e : n ≡ 0 + n = omega arith in e))
-      ∙ ap (λ m. all (λ n. all (λ k. ltb k (length tk / 10)) (numbersAt n)) (count 0 m)) (cell-count tc three)
-      ∙ sym (all-collect (λ k. ltb k (length tk / 10)) numbersAt (count 0 (length tc / 4)))
+      all-count listed box (λ n. all (λ k. ltb k (recordCount tk)) (numbersAt n)) (cellsOf tc) 0
+      (λ n h. cell-listed n h ∙ ap (λ m. all (λ k. ltb k (recordCount tk)) (numbersAt m)) (let e : n ≡ 0 + n = omega arith in e))
+      ∙ ap (λ m. all (λ n. all (λ k. ltb k (recordCount tk)) (numbersAt n)) (count 0 m)) (cell-count tc three)
+      ∙ sym (all-collect (λ k. ltb k (recordCount tk)) numbersAt (count 0 (length tc / 4)))
 
   module _ (up : rising (placesOf tk) ≡ true) where
     -- a record is a corner of cell n
-    cell-corner : (k : ℕ) → k < length tk / 10 → (n : ℕ) → n < length (cellsOf tc)
+    cell-corner : (k : ℕ) → k < recordCount tk → (n : ℕ) → n < length (cellsOf tc)
         → any (same (getD (placesOf tk) k (placeOf nowhere))) (cellCorners (cellAt tc n)) ≡ any (eqb k) (numbersAt n)
     unfolding cornerNumbers
     cell-corner k l n h =
@@ -127,7 +127,7 @@ module _ (tc tk table : List ℕ) (three : T (entriesRight 0 0 (entries tc))) (l
         ∙ ap (λ j. eqb k (recordAt tk (keyIn table n + octantKey j (2 ^ levelIn table n)))) (let e : i ≡ 0 + i = omega arith in e))
         ∙ sym (any-map (eqb k) (λ i. recordAt tk (keyIn table n + octantKey i (2 ^ levelIn table n))) (count 0 8))
 
-    some-corner : (k : ℕ) → k < length tk / 10
+    some-corner : (k : ℕ) → k < recordCount tk
         → any (λ c. any (same (getD (placesOf tk) k (placeOf nowhere))) (cellCorners c)) (cellsOf tc) ≡ any (eqb k) (allNumbers tk table (length tc / 4))
     unfolding allNumbers
     some-corner k l =
@@ -136,11 +136,11 @@ module _ (tc tk table : List ℕ) (three : T (entriesRight 0 0 (entries tc))) (l
         ∙ ap (λ m. any (λ n. any (eqb k) (numbersAt n)) (count 0 m)) (cell-count tc three)
         ∙ sym (any-collect (eqb k) numbersAt (count 0 (length tc / 4)))
 
-    module _ (marks : List ℕ) (room : length tk / 10 ≤ length marks) (blank : (k : ℕ) → k < length tk / 10 → getD marks k 0 ≡ 0) where
+    module _ (marks : List ℕ) (room : recordCount tk ≤ length marks) (blank : (k : ℕ) → k < recordCount tk → getD marks k 0 ≡ 0) where
       abbrev newMarks : List ℕ
       newMarks = marked (allNumbers tk table (length tc / 4)) marks
 
-      mark-is : (k : ℕ) → k < length tk / 10 → any (eqb k) (allNumbers tk table (length tc / 4)) ≡ eqb (getD newMarks k 0) 1
+      mark-is : (k : ℕ) → k < recordCount tk → any (eqb k) (allNumbers tk table (length tc / 4)) ≡ eqb (getD newMarks k 0) 1
       mark-is k h =
           go (any (eqb k) (allNumbers tk table (length tc / 4)))
           ∙ ap (λ v. eqb v 1) (sym (mark-at k (allNumbers tk table (length tc / 4)) marks (omega arith) ∙
@@ -152,23 +152,23 @@ module _ (tc tk table : List ℕ) (three : T (entriesRight 0 0 (entries tc))) (l
 
       -- no record is anything else than a corner of a cell where every record is marked
       all-corners : all (λ p. any (λ c. any (same p) (cellCorners c)) (cellsOf tc)) (placesOf tk)
-          ≡ all (λ k. eqb (getD newMarks k 0) 1) (count 0 (length tk / 10))
+          ≡ all (λ k. eqb (getD newMarks k 0) 1) (count 0 (recordCount tk))
       all-corners =
           all-count (λ p. any (λ c. any (same p) (cellCorners c)) (cellsOf tc)) (placeOf nowhere) (λ k. eqb (getD newMarks k 0) 1) (placesOf tk) 0
-          (λ k h. let l : k < length tk / 10 = rw (length-places tk) at h in
+          (λ k h. let l : k < recordCount tk = rw (length-places tk) at h in
           some-corner k l ∙ mark-is k l ∙ ap (λ j. eqb (getD newMarks j 0) 1) (let e : k ≡ 0 + k = omega arith in e))
           ∙ ap (λ m. all (λ k. eqb (getD newMarks k 0) 1) (count 0 m)) (length-places tk)
 
       -- check 6
       pub corners-are : cornersRight (cellsOf tc) (placesOf tk)
-          ≡ all (λ k. ltb k (length tk / 10)) (allNumbers tk table (length tc / 4)) && all (λ k. eqb (getD newMarks k 0) 1) (count 0 (length tk / 10))
+          ≡ all (λ k. ltb k (recordCount tk)) (allNumbers tk table (length tc / 4)) && all (λ k. eqb (getD newMarks k 0) 1) (count 0 (recordCount tk))
       unfolding cornersRight
       corners-are = ap (λ r. r && all (λ p. any (λ c. any (same p) (cellCorners c)) (cellsOf tc)) (placesOf tk)) all-listed
-          ∙ ap (λ r. all (λ k. ltb k (length tk / 10)) (allNumbers tk table (length tc / 4)) && r) all-corners
+          ∙ ap (λ r. all (λ k. ltb k (recordCount tk)) (allNumbers tk table (length tc / 4)) && r) all-corners
 
 -- Check 6 as the code decides it: by the first missing corner, or by the marks; n is the number of corner records.
 module _ (tc tk table : List ℕ) (three : entriesRight 0 0 (entries tc) ≡ true) (laid : Laid tc table) (b : Bytes tk)
-    (n : ℕ) (n-is : n ≡ length tk / 10) where
+    (n : ℕ) (n-is : n ≡ recordCount tk) where
   abbrev found : ℕ → Bool
   found m = all (λ k. ltb k m) (allNumbers tk table (length tc / 4))
 
@@ -185,7 +185,7 @@ module _ (tc tk table : List ℕ) (three : entriesRight 0 0 (entries tc) ≡ tru
       ap (λ m. all (λ k. eqb (getD m k 0) 1) (count 0 n)) w
       ∙ ap (λ m. all (λ k. eqb (getD (marked (allNumbers tk table (length tc / 4)) marks) k 0) 1) (count 0 m)) n-is
       ∙ sym (corners-are tc tk table (→true three) laid b up marks (omega arith) (λ k h. blank k (omega arith))
-      ∙ ap (λ r. r && all (λ k. eqb (getD (marked (allNumbers tk table (length tc / 4)) marks) k 0) 1) (count 0 (length tk / 10)))
+      ∙ ap (λ r. r && all (λ k. eqb (getD (marked (allNumbers tk table (length tc / 4)) marks) k 0) 1) (count 0 (recordCount tk)))
       (ap found (sym n-is) ∙ e))
 
   -- the same, where the marks are made blank

@@ -8,8 +8,8 @@ use lib.ListN.{length}
 use lib.Ieee.{Float}
 use borrow.Author.Tests.{ltb-false}
 use Rattle.base.specs.Lists.{any}
-use Rattle.rules.specs.Survey.{entries, cellsOf, cornersOf}
-use Rattle.rules.specs.Outputs.{badTable, entriesRight, rising, cornersRight, inRange, firstOf, surveyChecks, surveyRefusal, checks}
+use Rattle.rules.specs.Survey.{recordSize, entries, cellsOf, cornersOf}
+use Rattle.rules.specs.Outputs.{cornerLimit, badTable, entriesRight, rising, cornersRight, inRange, firstOf, surveyChecks, surveyRefusal, checks}
 use Rattle.octree.proofs.Accepted.{refused-before, refused-last, refused-never}
 use Rattle.records.specs.Keys.{placesOf}
 use Rattle.cells.specs.Laid.{tooDeep}
@@ -31,11 +31,11 @@ module _ (tc tk : List ℕ) where
   refused-one a = rw a
 
   module _ (a : badTable 4 8196 tc ≡ false) where
-    pub refused-two : badTable 10 48720 tk ≡ true → 2 ≡ surveyRefusal tc tk
+    pub refused-two : badTable recordSize cornerLimit tk ≡ true → 2 ≡ surveyRefusal tc tk
     unfolding surveyRefusal surveyChecks
     refused-two b = rw (a, b)
 
-    module _ (b : badTable 10 48720 tk ≡ false) where
+    module _ (b : badTable recordSize cornerLimit tk ≡ false) where
       pub refused-three : not (entriesRight 0 0 (entries tc)) ≡ true → 3 ≡ surveyRefusal tc tk
       unfolding surveyRefusal surveyChecks
       refused-three c = rw (a, b, c)

@@ -14,8 +14,8 @@ use Rattle.base.proofs.Tests.{and→, true→}
 use Rattle.base.proofs.Lists.{In, in-get, all→in, position-of}
 use Rattle.base.proofs.Places.{same→}
 use Rattle.base.proofs.Octants.{octant→}
-use Rattle.rules.specs.Survey.{cellsOf, cellCorners}
-use Rattle.rules.specs.Outputs.{rising, cornersRight}
+use Rattle.rules.specs.Survey.{recordSize, recordCount, cellsOf, cellCorners}
+use Rattle.rules.specs.Outputs.{cornerLimit, rising, cornersRight}
 use Rattle.octree.proofs.Queue.{box}
 use Rattle.octree.proofs.Records.{cell-count}
 use Rattle.octree.proofs.Cells.{→cell}
@@ -38,8 +38,8 @@ module _ (tc tk : List ℕ) (c : Checked tc tk) where
   pub few-cells : length tc / 4 ≤ 2049
   few-cells = omega (arith, table-fits 4 8196 tc (c .cell-table))
 
-  pub few-corners : length tk / 10 ≤ 4872
-  few-corners = omega (arith, table-fits 10 48720 tk (c .corner-table))
+  pub few-corners : recordCount tk ≤ 4872
+  few-corners = omega (arith, table-fits recordSize cornerLimit tk (c .corner-table))
 
   module _ (n : ℕ) (h : n < length tc / 4) where
     cell-in : In (cellAt tc n) (cellsOf tc)
@@ -75,7 +75,7 @@ module _ (tc tk : List ℕ) (c : Checked tc tk) where
       fits = record { x-fits = omega (arith, corner-in-box X); y-fits = omega (arith, corner-in-box Y) }
 
       -- the look-up finds its record
-      pub found : Bytes tk → recordAt tk (keyOf (corner tc n i)) < length tk / 10
+      pub found : Bytes tk → recordAt tk (keyOf (corner tc n i)) < recordCount tk
       found b = listed-found tk b (corner tc n i) fits corner-listed
 
       -- and that record is at the corner's place

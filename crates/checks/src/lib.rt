@@ -5,8 +5,8 @@ ghost use Prim.Native.Nat.{_+_, _*_, _≤_, _<_, _/_};
 ghost use lib.ListN.{length, getD, set, take};
 ghost use lib.Dec.{ltb, eqb};
 ghost use Rattle.base.specs.Lists.{all, any, count as upTo};
-ghost use Rattle.rules.specs.Survey.{entries, cellsOf, cornersOf};
-ghost use Rattle.rules.specs.Outputs.{badTable, entriesRight, rising, cornersRight, inRange, firstOf, surveyRefusal, checks};
+ghost use Rattle.rules.specs.Survey.{recordCount, entries, cellsOf, cornersOf};
+ghost use Rattle.rules.specs.Outputs.{cornerLimit, badTable, entriesRight, rising, cornersRight, inRange, firstOf, surveyRefusal, checks};
 ghost use Rattle.records.specs.Keys.{placesOf};
 ghost use Rattle.cells.specs.Laid.{Laid};
 ghost use Rattle.octants.specs.Octants.{LookedUp, Octants};
@@ -28,7 +28,7 @@ fn bad_table(t: &[u8], n: usize, limit: usize) -> bool
 
 // Check 7: a sounding is out of range.
 fn bad_sounding(corners: &[u8], count: usize) -> bool
-    requires { ⌜ count ≡ length (now corners) / 10 ⌝ }
+    requires { ⌜ count ≡ recordCount (now corners) ⌝ }
     ensures { λ r. ⌜ r ≡ any (λ k. not (inRange (k .sounding))) (cornersOf (now (corners .entry))) ⌝ }
 {
     let mut n: usize = 0;
@@ -94,12 +94,12 @@ fn all_marked(marks: &[u8], count: usize) -> bool
 fn corners_right(cells: &[u8], laid: &[u64], corners: &[u8], octants: &[u16]) -> bool
     requires { ⌜ entriesRight 0 0 (entries (now cells)) ≡ true ⌝ }
     requires { ⌜ Laid (now cells) (now laid) ⌝ }
-    requires { ⌜ (length (now cells) ≤ 8196) × (length (now corners) ≤ 48720) ⌝ }
+    requires { ⌜ (length (now cells) ≤ 8196) × (length (now corners) ≤ cornerLimit) ⌝ }
     requires { ⌜ rising (placesOf (now corners)) ≡ true ⌝ }
     requires { ⌜ LookedUp (now corners) (now laid) (now octants) (length (now cells) / 4) ⌝ }
     ensures { λ r. ⌜ r ≡ cornersRight (cellsOf (now (cells .entry))) (placesOf (now (corners .entry))) ⌝ }
 {
-    let count = corners.len() / 10;
+    let count = corners.len() / records::SIZE;
     let mut marks = [0u8; 4872];
     if !mark_all(octants, 8 * (cells.len() / 4), count, &mut marks) {
         return false;
@@ -117,11 +117,11 @@ pub fn read(cells: &[u8], corners: &[u8], laid: &mut [u64], octants: &mut [u16])
     if bad_table(cells, 4, 8196) {
         return 1;
     }
-    if bad_table(corners, 10, 48720) {
+    if bad_table(corners, records::SIZE, records::LIMIT) {
         return 2;
     }
     let records = cells.len() / 4;
-    let count = corners.len() / 10;
+    let count = corners.len() / records::SIZE;
     if !cells::entries_right(cells, records) {
         return 3;
     }

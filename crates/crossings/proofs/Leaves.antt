@@ -11,7 +11,7 @@ use Rattle.base.specs.Lists.{bit}
 use Rattle.base.proofs.Tests.{bit-le}
 use Rattle.base.proofs.Below.{rest}
 use Rattle.rules.specs.Survey.{Cell, cornersOf, cornerRecord, cornerAt, leafOf, wet, wetAt}
-use Rattle.rules.specs.Outputs.{rising, accepted, surveyOf}
+use Rattle.rules.specs.Outputs.{cornerLimit, rising, accepted, surveyOf}
 use Rattle.rules.specs.declared.Corner.{Corner}
 use Rattle.rules.specs.declared.Leaf.{Leaf}
 use Rattle.records.specs.Keys.{placesOf}
@@ -31,7 +31,7 @@ module _ (tc tk : List ℕ) (clearance : Float) (ok : accepted tc tk clearance �
   pub cells-small : length tc ≤ 8196
   cells-small = cells-few tc tk (no-refusal tc tk clearance ok)
 
-  pub corners-small : length tk ≤ 48720
+  pub corners-small : length tk ≤ cornerLimit
   corners-small = corners-few tc tk (no-refusal tc tk clearance ok)
 
 -- the corner of a record is the one that the rules take at its place

@@ -53,7 +53,7 @@ fn show(cells: &[u8], corners: &[u8], clearance: f32) {
 
 fn main() {
     let mut cells = [0u8; 8197];
-    let mut corners = [0u8; 48721];
+    let mut corners = [0u8; 58465];
     let mut bytes = [0u8; 5];
     let n = load(b"cells", &mut cells);
     let k = load(b"corners", &mut corners);

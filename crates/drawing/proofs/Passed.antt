@@ -12,7 +12,7 @@ use Rattle.base.specs.Lists.{any}
 use Rattle.base.proofs.Tests.{→true, true→, false→}
 use Rattle.rules.specs.Survey.{entries, cellsOf}
 use Rattle.rules.specs.OpenAtBox.{openAtBox}
-use Rattle.rules.specs.Outputs.{entriesRight, rising, firstOf, surveyChecks, surveyRefusal, checks, accepted, drawingChecks, drawable}
+use Rattle.rules.specs.Outputs.{cornerLimit, entriesRight, rising, firstOf, surveyChecks, surveyRefusal, checks, accepted, drawingChecks, drawable}
 use Rattle.octree.proofs.Accepted.{refused-before, refused-last, refused-never, Checked, checked, accepted→, drawable→}
 use Rattle.records.specs.Keys.{placesOf}
 use Rattle.cells.specs.Laid.{tooDeep}
@@ -57,7 +57,7 @@ module _ (tc tk : List ℕ) (clearance : Float) (ok : accepted tc tk clearance �
   pub corners-rise : rising (placesOf tk) ≡ true
   corners-rise = rises-true tc tk unrefused
 
-  pub few-corners : length tk ≤ 48720
+  pub few-corners : length tk ≤ cornerLimit
   few-corners = corners-few tc tk unrefused
 
   pub few-cells : length tc ≤ 8196

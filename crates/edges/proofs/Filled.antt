@@ -1,5 +1,5 @@
 -- Tables filled from the front, entry by entry; and the wetness of a corner record.
-use Prim.Native.Nat.{ℕ, _+_, _/_, _<_}
+use Prim.Native.Nat.{ℕ, _+_, _<_}
 use mathlib.Core.Path.{_≡_, sym, ap, _∙_}
 use mathlib.Core.Bool.{true}
 use mathlib.Core.List.{List}
@@ -9,7 +9,7 @@ use lib.Ieee.{Float}
 use lib.ListN.{length, getD, set}
 use lib.Seq.{getD-set-same, getD-set-other}
 use Rattle.base.specs.Lists.{bit}
-use Rattle.rules.specs.Survey.{cornerRecord, cornersOf, placeOf, wet, wetAt}
+use Rattle.rules.specs.Survey.{recordCount, cornerRecord, cornersOf, placeOf, wet, wetAt}
 use Rattle.rules.specs.Outputs.{rising}
 use Rattle.records.specs.Keys.{keyOf, placesOf, recordAt}
 use Rattle.records.proofs.Keys.{Bytes, record-short, get-place}
@@ -28,7 +28,7 @@ filled-more f t k v h g e j l = go (ℕ-discrete j k)
 
 module _ (t : List ℕ) (b : Bytes t) (up : rising (placesOf t) ≡ true) (clearance : Float) where
   -- a record's place is wet just if the record is
-  pub wet-record : (k : ℕ) → k < length t / 10 → wetAt (cornersOf t) clearance (placeAt (placesOf t) k) ≡ wet clearance (cornerRecord t k)
+  pub wet-record : (k : ℕ) → k < recordCount t → wetAt (cornersOf t) clearance (placeAt (placesOf t) k) ≡ wet clearance (cornerRecord t k)
   unfolding wetAt
   wet-record k h =
       let p = placeOf (cornerRecord t k) in
@@ -36,6 +36,6 @@ module _ (t : List ℕ) (b : Bytes t) (up : rising (placesOf t) ≡ true) (clear
       ap (wetAt (cornersOf t) clearance) (get-place t k h) ∙
       ap (wet clearance) (corner-found t b p (record-short t b k h) (omega arith) ∙ ap (cornerRecord t) e)
 
-  pub wets-done : (wets : List ℕ) → length wets ≡ 4872 → ((k : ℕ) → k < length t / 10 → getD wets k 0 ≡ bit (wet clearance (cornerRecord t k))) →
+  pub wets-done : (wets : List ℕ) → length wets ≡ 4872 → ((k : ℕ) → k < recordCount t → getD wets k 0 ≡ bit (wet clearance (cornerRecord t k))) →
       Wets t clearance wets
   wets-done wets size f = record { size = size; entry = λ k h. f k h ∙ ap bit (sym (wet-record k h)) }

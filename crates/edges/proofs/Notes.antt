@@ -14,7 +14,7 @@ use Rattle.base.specs.Grid.{Place, origin, Axis, X, move, axisOf, axisNumber, s
 use Rattle.base.proofs.Tests.{and→, either, true→, below}
 use Rattle.base.proofs.Places.{same→}
 use Rattle.base.proofs.Below.{rest}
-use Rattle.rules.specs.Survey.{Cell, size}
+use Rattle.rules.specs.Survey.{recordCount, Cell, size}
 use Rattle.rules.specs.Edges.{CellEdge, edge}
 use Rattle.rules.specs.Outputs.{rising}
 use Rattle.records.specs.Keys.{placesOf}
@@ -57,7 +57,7 @@ unfolding highestIn
 high-step e es a p = refl
 
 -- One more edge, of level l, from corner record k on, on axis n.
-module _ (tk : List ℕ) (b : Bytes tk) (up : rising (placesOf tk) ≡ true) (few : length tk / 10 ≤ 4872) (n k l : ℕ) (g₀ : n < 3) (h : k < length tk / 10) where
+module _ (tk : List ℕ) (b : Bytes tk) (up : rising (placesOf tk) ≡ true) (few : recordCount tk ≤ 4872) (n k l : ℕ) (g₀ : n < 3) (h : k < recordCount tk) where
   abbrev new : CellEdge
   new = edge (axisOf n) (placeAt (placesOf tk) k) l
 
@@ -65,7 +65,7 @@ module _ (tk : List ℕ) (b : Bytes tk) (up : rising (placesOf tk) ≡ true) (fe
   starts-here = true→ (startsAt (axisOf n) (placeAt (placesOf tk) k) new) (→start (axisOf n) (placeAt (placesOf tk) k) l)
 
   -- a slot is that of the edge, or the edge does not start there
-  slot-or-not : (m j : ℕ) → m < 3 → j < length tk / 10 →
+  slot-or-not : (m j : ℕ) → m < 3 → j < recordCount tk →
       ((m ≡ n) × (j ≡ k)) ⊎ ((4872 * m + j ≡ 4872 * n + k → ⊥) × (startsAt (axisOf m) (placeAt (placesOf tk) j) new ≡ false))
   slot-or-not m j p q = go (ℕ-discrete (4872 * m + j) (4872 * n + k)) (either (startsAt (axisOf m) (placeAt (placesOf tk) j) new))
     where
@@ -90,7 +90,7 @@ module _ (tk : List ℕ) (b : Bytes tk) (up : rising (placesOf tk) ≡ true) (fe
       branch : Axis → Place → Bool → ℕ
       branch a p c = cond c (take l (f es a p)) (f es a p)
 
-      go : (m j : ℕ) → m < 3 → j < length tk / 10 →
+      go : (m j : ℕ) → m < 3 → j < recordCount tk →
           ((m ≡ n) × (j ≡ k)) ⊎ ((4872 * m + j ≡ 4872 * n + k → ⊥) × (startsAt (axisOf m) (placeAt (placesOf tk) j) new ≡ false)) →
           g' (4872 * m + j) ≡ f (new ∷ es) (axisOf m) (placeAt (placesOf tk) j)
       go m j p q (inl (x, y)) =
@@ -130,7 +130,7 @@ module _ (tk : List ℕ) (b : Bytes tk) (up : rising (placesOf tk) ≡ true) (fe
         here : at n k
         here o = rw (low-here, same) (end-here (omega (arith, low-here)))
 
-        go : (i j : ℕ) → i < 3 → j < length tk / 10 →
+        go : (i j : ℕ) → i < 3 → j < recordCount tk →
             ((i ≡ n) × (j ≡ k)) ⊎ ((4872 * i + j ≡ 4872 * n + k → ⊥) × (startsAt (axisOf i) (placeAt (placesOf tk) j) new ≡ false)) → at i j
         go i j p q (inl (x, y)) = rw (x, y) here
         go i j p q (inr (s, c)) = λ o.
@@ -159,7 +159,7 @@ pub levels-same : (tk : List ℕ) (es fs : List CellEdge) (slots : List ℕ) →
 levels-same tk es fs slots e v = subst (λ gs. Levels tk gs slots) e v
 
 -- a table of 11 everywhere: no edge yet
-pub none-noted : (tk : List ℕ) (w : ℕ) → w ≡ 43848 → length tk / 10 ≤ 4872 → Levels tk [] (replicate w 11)
+pub none-noted : (tk : List ℕ) (w : ℕ) → w ≡ 43848 → recordCount tk ≤ 4872 → Levels tk [] (replicate w 11)
 unfolding lowestIn highestIn lowestAt highestAt
 none-noted tk w e few = record {
   size = length-replicate w 11 ∙ e;
@@ -193,7 +193,7 @@ module _ (tc tk t : List ℕ) (o : Octants tc tk t) (n : ℕ) (h : n < length tc
       sym (rest (cellEdges (cellAt tc n)) e (edge X origin 0) g)
 
   -- edge e of the cell of record n is noted, after those behind it
-  pub note-next : Bytes tk → rising (placesOf tk) ≡ true → length tk / 10 ≤ 4872 → cellAt tc n .level ≤ 10 → (es : List CellEdge) (slots : List ℕ) →
+  pub note-next : Bytes tk → rising (placesOf tk) ≡ true → recordCount tk ≤ 4872 → cellAt tc n .level ≤ 10 → (es : List CellEdge) (slots : List ℕ) →
       Levels tk (drop (e + 1) (cellEdges (cellAt tc n)) ++ es) slots → (l slot : ℕ) → l ≡ cellAt tc n .level →
       slot ≡ 4872 * (e / 4) + getD t (8 * n + getD starts e 0) 0 → (slots' : List ℕ) → slots' ≡ withEdge slots slot l (getD t (8 * n + getD ends e 0) 0) →
       Levels tk (drop e (cellEdges (cellAt tc n)) ++ es) slots'

@@ -6,9 +6,8 @@ use mathlib.Core.List.{List}
 use native.Mathlib.Omega.{arith}
 use lib.Dec.{T}
 use lib.Ieee.{Float}
-use lib.ListN.{length}
 use Rattle.base.specs.Grid.{Axis, axisOf}
-use Rattle.rules.specs.Survey.{cornerRecord, cornersOf, placeOf, cornerAt}
+use Rattle.rules.specs.Survey.{recordCount, cornerRecord, cornersOf, placeOf, cornerAt}
 use Rattle.rules.specs.Edges.{edge, spotOn}
 use Rattle.rules.specs.Outputs.{rising, accepted, surveyOf}
 use Rattle.places.specs.Places.{spotBetween}
@@ -22,7 +21,7 @@ use Rattle.edges.proofs.Readings.{lowest-read}
 use Rattle.edges.proofs.PointSlots.{slot-edge, slot-odd-edge}
 
 -- the corner at a record's place is the record
-pub record-corner : (t : List ℕ) → Bytes t → rising (placesOf t) ≡ true → (k : ℕ) → k < length t / 10 → cornerRecord t k ≡ cornerAt (cornersOf t)
+pub record-corner : (t : List ℕ) → Bytes t → rising (placesOf t) ≡ true → (k : ℕ) → k < recordCount t → cornerRecord t k ≡ cornerAt (cornersOf t)
     (placeAt (placesOf t) k)
 record-corner t b up k h =
     let p = placeOf (cornerRecord t k) in
@@ -30,7 +29,7 @@ record-corner t b up k h =
     sym (ap (cornerAt (cornersOf t)) (get-place t k h) ∙ corner-found t b p (record-short t b k h) (omega arith) ∙ ap (cornerRecord t) e)
 
 -- the place between two records that are the ends of an edge
-pub spot-read : (t : List ℕ) → Bytes t → rising (placesOf t) ≡ true → (clearance : Float) (a : Axis) (k m l : ℕ) → k < length t / 10 → UpperEnd t a k l m →
+pub spot-read : (t : List ℕ) → Bytes t → rising (placesOf t) ≡ true → (clearance : Float) (a : Axis) (k m l : ℕ) → k < recordCount t → UpperEnd t a k l m →
     spotBetween clearance a (2 ^ l) (cornerRecord t k) (cornerRecord t m) ≡ spotOn (cornersOf t) clearance (edge a (placeAt (placesOf t) k) l)
 spot-read t b up clearance a k m l h u =
     (λ i. spotBetween clearance a (2 ^ l) (record-corner t b up k h i) ((record-corner t b up m (u .inside) ∙ ap (cornerAt (cornersOf t)) (u .place)) i)) ∙

@@ -11,7 +11,7 @@ use lib.ListN.{length, getD}
 use Rattle.base.specs.Grid.{origin, X, axisOf}
 use Rattle.base.proofs.Tests.{below}
 use Rattle.base.proofs.Lists.{get-any}
-use Rattle.rules.specs.Survey.{Survey}
+use Rattle.rules.specs.Survey.{recordCount, Survey}
 use Rattle.rules.specs.Edges.{CellEdge, edge, pointEdges}
 use Rattle.rules.specs.Outputs.{accepted, surveyOf}
 use Rattle.edges.specs.Tables.{placeAt, lowestLevel, crossedSlot, slotsBelow, slotEdge, lowestAt, farAt, Levelled, Carriers, OddEdge, UpperEnd}
@@ -48,7 +48,7 @@ module _ (tc tk : List ℕ) (clearance : Float) (ok : accepted tc tk clearance �
 
   -- a crossed slot is that of an odd edge
   module _ (slots : List ℕ) (known : Levelled tc tk slots) (i : ℕ) (h : i < 14616) (t : T (crossedSlot (surveyOf tc tk clearance) i)) where
-    inside : i % 4872 < length tk / 10
+    inside : i % 4872 < recordCount tk
     inside = crossed-inside tc tk clearance i t
 
     level-low : lowestAt slots i ≤ 10

@@ -12,7 +12,7 @@ use borrow.Author.Tests.{lt-ltb, le-ltb}
 use Rattle.base.specs.Lists.{bit}
 use Rattle.base.specs.Grid.{Axis, move, axisOf}
 use Rattle.base.proofs.Tests.{→true, below}
-use Rattle.rules.specs.Survey.{cellsOf, cornersOf, wetAt, Survey}
+use Rattle.rules.specs.Survey.{recordCount, cellsOf, cornersOf, wetAt, Survey}
 use Rattle.rules.specs.Edges.{isEdge, odd}
 use Rattle.rules.specs.Outputs.{surveyRefusal, accepted, surveyOf}
 use Rattle.records.specs.Keys.{keyOf, placesOf}
@@ -27,7 +27,7 @@ use Rattle.edges.proofs.Lawfully.{edged}
 use Rattle.edges.proofs.Surveyed.{corners-known, corners-few}
 
 -- the key of the upper end of an edge from record k on
-pub upper-key : (t : List ℕ) (k l key r : ℕ) (a : Axis) → k < length t / 10 → key ≡ keyAt t k → r ≡ key + 2 ^ l * keyUnit a →
+pub upper-key : (t : List ℕ) (k l key r : ℕ) (a : Axis) → k < recordCount t → key ≡ keyAt t k → r ≡ key + 2 ^ l * keyUnit a →
     r ≡ keyOf (move a (2 ^ l) (placeAt (placesOf t) k))
 upper-key t k l key r a h e f =
     f ∙ ap (λ n. n + 2 ^ l * keyUnit a) (e ∙ sym (ap keyOf (get-place t k h))) ∙ sym (key-move a (2 ^ l) (placeAt (placesOf t) k))
@@ -41,7 +41,7 @@ marks-differ false true = refl
 marks-differ false false = refl
 
 -- an edge is odd just if the marks at its two records differ
-pub odd-read : (t : List ℕ) (clearance : Float) (wets : List ℕ) → Wets t clearance wets → (a : Axis) (k m l : ℕ) → k < length t / 10 → UpperEnd t a k l m →
+pub odd-read : (t : List ℕ) (clearance : Float) (wets : List ℕ) → Wets t clearance wets → (a : Axis) (k m l : ℕ) → k < recordCount t → UpperEnd t a k l m →
     not (eqb (getD wets k 0) (getD wets m 0)) ≡ odd (wetAt (cornersOf t) clearance) a (placeAt (placesOf t) k) l
 unfolding odd
 odd-read t clearance wets w a k m l h u =
@@ -50,7 +50,7 @@ odd-read t clearance wets w a k m l h u =
     ap (λ p. not (Bool·beq (wetAt (cornersOf t) clearance (placeAt (placesOf t) k)) (wetAt (cornersOf t) clearance p))) (u .place)
 
 -- the upper end of the edge of the lowest level at a slot, where there is one
-pub far-read : (tc tk slots : List ℕ) → Levelled tc tk slots → (n k i : ℕ) → i ≡ 4872 * n + k → n < 3 → k < length tk / 10 →
+pub far-read : (tc tk slots : List ℕ) → Levelled tc tk slots → (n k i : ℕ) → i ≡ 4872 * n + k → n < 3 → k < recordCount tk →
     lowestAt slots i ≤ 10 → UpperEnd tk (axisOf n) k (lowestAt slots i) (farAt slots i)
 far-read tc tk slots known n k i e g h o =
     let q = known .low n k g h in
@@ -77,14 +77,14 @@ module _ (s : Survey) (i : ℕ) where
     slot-odd g = rw (lt-ltb (i % 4872) (length (s .places)) h, lt-ltb (lowestLevel s (axisOf (i / 4872)) (placeAt (s .places) (i % 4872))) 11 g)
 
 -- a slot of no record
-pub record-outside : (tc tk : List ℕ) (clearance : Float) (i : ℕ) → length tk / 10 ≤ i % 4872 → crossedSlot (surveyOf tc tk clearance) i ≡ false
+pub record-outside : (tc tk : List ℕ) (clearance : Float) (i : ℕ) → recordCount tk ≤ i % 4872 → crossedSlot (surveyOf tc tk clearance) i ≡ false
 unfolding surveyOf
 record-outside tc tk clearance i h = slot-outside (surveyOf tc tk clearance) i (omega (arith, length-places tk))
 
-pub crossed-inside : (tc tk : List ℕ) (clearance : Float) (i : ℕ) → T (crossedSlot (surveyOf tc tk clearance) i) → i % 4872 < length tk / 10
-crossed-inside tc tk clearance i t = go (below (i % 4872) (length tk / 10))
+pub crossed-inside : (tc tk : List ℕ) (clearance : Float) (i : ℕ) → T (crossedSlot (surveyOf tc tk clearance) i) → i % 4872 < recordCount tk
+crossed-inside tc tk clearance i t = go (below (i % 4872) (recordCount tk))
   where
-    go : (i % 4872 < length tk / 10) ⊎ (length tk / 10 ≤ i % 4872) → i % 4872 < length tk / 10
+    go : (i % 4872 < recordCount tk) ⊎ (recordCount tk ≤ i % 4872) → i % 4872 < recordCount tk
     go (inl h) = h
     go (inr h) = absurd (subst T (record-outside tc tk clearance i h) t)
 
@@ -108,12 +108,12 @@ module _ (tc tk : List ℕ) (clearance : Float) (ok : accepted tc tk clearance �
   few-places = omega (arith, length-places tk, corners-few tc tk no-refusal)
 
   -- the lowest and the highest level as the table has them
-  pub lowest-read : (slots : List ℕ) → Levelled tc tk slots → (n k i : ℕ) → i ≡ 4872 * n + k → n < 3 → k < length tk / 10 →
+  pub lowest-read : (slots : List ℕ) → Levelled tc tk slots → (n k i : ℕ) → i ≡ 4872 * n + k → n < 3 → k < recordCount tk →
       lowestAt slots i ≡ lowestLevel (surveyOf tc tk clearance) (axisOf n) (placeAt (placesOf tk) k)
   unfolding lowestLevel surveyOf
   lowest-read slots known n k i e g h = ap (lowestAt slots) e ∙ known .low n k g h
 
-  pub highest-read : (slots : List ℕ) → Levelled tc tk slots → (n k i : ℕ) → i ≡ 4872 * n + k → n < 3 → k < length tk / 10 →
+  pub highest-read : (slots : List ℕ) → Levelled tc tk slots → (n k i : ℕ) → i ≡ 4872 * n + k → n < 3 → k < recordCount tk →
       highestAt slots i ≡ highestLevel (surveyOf tc tk clearance) (axisOf n) (placeAt (placesOf tk) k)
   unfolding highestLevel surveyOf
   highest-read slots known n k i e g h = ap (highestAt slots) e ∙ known .high n k g h
@@ -121,14 +121,14 @@ module _ (tc tk : List ℕ) (clearance : Float) (ok : accepted tc tk clearance �
   -- ---- the crossed slots, as the code finds them
 
   module _ (slots : List ℕ) (known : Levelled tc tk slots) (i : ℕ) (h : i < 14616) where
-    level-is : i % 4872 < length tk / 10 → lowestAt slots i ≡ lowestLevel (surveyOf tc tk clearance) (axisOf (i / 4872)) (placeAt (placesOf tk) (i % 4872))
+    level-is : i % 4872 < recordCount tk → lowestAt slots i ≡ lowestLevel (surveyOf tc tk clearance) (axisOf (i / 4872)) (placeAt (placesOf tk) (i % 4872))
     level-is g = lowest-read slots known (i / 4872) (i % 4872) i (omega arith) (omega arith) g
 
-    pub empty : i % 4872 < length tk / 10 → 10 < lowestAt slots i → crossedSlot (surveyOf tc tk clearance) i ≡ false
+    pub empty : i % 4872 < recordCount tk → 10 < lowestAt slots i → crossedSlot (surveyOf tc tk clearance) i ≡ false
     unfolding surveyOf
     empty g o = slot-empty s i (omega (arith, length-places tk)) (omega (arith, level-is g))
 
-    module _ (g : i % 4872 < length tk / 10) (o : lowestAt slots i ≤ 10) where
+    module _ (g : i % 4872 < recordCount tk) (o : lowestAt slots i ≤ 10) where
       pub low-edge : T (isEdge (cellsOf tc) (axisOf (i / 4872)) (placeAt (placesOf tk) (i % 4872)) (lowestAt slots i))
       unfolding surveyOf
       low-edge =

@@ -1,5 +1,5 @@
 -- A search for an edge, of a survey that is accepted at a clearance: by its place, and by the levels at a corner record.
-use Prim.Native.Nat.{ℕ, _+_, _*_, _/_, _≤_, _<_}
+use Prim.Native.Nat.{ℕ, _+_, _*_, _≤_, _<_}
 use mathlib.Core.Path.{_≡_, refl, sym, ap, _∙_, subst}
 use mathlib.Core.Logic.{_⊎_, inl, inr}
 use mathlib.Core.Bool.{true, false}
@@ -8,11 +8,10 @@ use mathlib.Core.Option.{none}
 use native.Mathlib.Omega.{arith}
 use lib.Dec.{T}
 use lib.Ieee.{Float}
-use lib.ListN.{length}
 use Rattle.base.specs.Lists.{any}
 use Rattle.base.specs.Grid.{Place, Axis, axisOf, same}
 use Rattle.base.proofs.Tests.{either}
-use Rattle.rules.specs.Survey.{cellsOf, Survey}
+use Rattle.rules.specs.Survey.{recordCount, cellsOf, Survey}
 use Rattle.rules.specs.Edges.{isEdge}
 use Rattle.rules.specs.Outputs.{accepted, surveyOf}
 use Rattle.records.specs.Keys.{keyOf, placesOf, recordAt, Short}
@@ -33,10 +32,10 @@ module _ (tc tk : List ℕ) (clearance : Float) (ok : accepted tc tk clearance �
   -- ---- a search for an edge
 
   module _ (b : Bytes tk) (a : Axis) (p : Place) (l key k : ℕ) (e : key ≡ keyOf p) (r : k ≡ recordAt tk key) where
-    listed-inside : T (any (same p) (placesOf tk)) → k < length tk / 10
+    listed-inside : T (any (same p) (placesOf tk)) → k < recordCount tk
     listed-inside t = omega (arith, found tk b (corners tc tk clearance ok .rises) p t .0, r, ap (recordAt tk) e)
 
-    pub nowhere : length tk / 10 ≤ k → isEdge (cellsOf tc) a p l ≡ false
+    pub nowhere : recordCount tk ≤ k → isEdge (cellsOf tc) a p l ≡ false
     unfolding surveyOf
     nowhere h = go (either (isEdge (cellsOf tc) a p l))
       where
@@ -44,13 +43,13 @@ module _ (tc tk : List ℕ) (clearance : Float) (ok : accepted tc tk clearance �
         go (inl t) = absurd (omega (arith, listed-inside (edges-law tc tk clearance ok .lower-end a p l t)))
         go (inr f) = f
 
-    pub at-place : Short p → k < length tk / 10 → placeAt (placesOf tk) k ≡ p
+    pub at-place : Short p → k < recordCount tk → placeAt (placesOf tk) k ≡ p
     at-place fits h =
         let q : k ≡ recordAt tk (keyOf p) = r ∙ ap (recordAt tk) e in
         ap at q ∙ found tk b (corners tc tk clearance ok .rises) p (found-listed tk b p fits (omega arith)) .1
 
   -- at a record, an edge is there just between the two levels of the table
-  module _ (slots : List ℕ) (known : Levelled tc tk slots) (n k l : ℕ) (g : n < 3) (h : k < length tk / 10) where
+  module _ (slots : List ℕ) (known : Levelled tc tk slots) (n k l : ℕ) (g : n < 3) (h : k < recordCount tk) where
     pub edge-levels : T (isEdge (cellsOf tc) (axisOf n) (placeAt (placesOf tk) k) l) →
         (lowestAt slots (4872 * n + k) ≤ l) × (l ≤ highestAt slots (4872 * n + k))
     unfolding surveyOf
@@ -78,7 +77,7 @@ module _ (tc tk : List ℕ) (clearance : Float) (ok : accepted tc tk clearance �
         go (inr f) w = f
 
     pub sought-miss : (p : Place) → placeAt (placesOf tk) k ≡ p → (l < lowestAt slots (4872 * n + k)) ⊎ (highestAt slots (4872 * n + k) < l) →
-        Sought tc tk (axisOf n) p l (length tk / 10)
+        Sought tc tk (axisOf n) p l (recordCount tk)
     sought-miss p e o = record { found = λ x. absurd (omega arith); none = λ x. ap (λ q. isEdge (cellsOf tc) (axisOf n) q l) (sym e) ∙ levels-miss o }
 
     pub sought-hit : (p : Place) → placeAt (placesOf tk) k ≡ p → lowestAt slots (4872 * n + k) ≤ l → l ≤ highestAt slots (4872 * n + k) → Sought tc tk

@@ -15,9 +15,9 @@ use Rattle.base.specs.Lists.{any}
 use Rattle.base.proofs.Lists.{in→any, in-get}
 use Rattle.base.proofs.Places.{same-refl}
 use Rattle.records.proofs.Keys.{length-places}
-use Rattle.rules.specs.Survey.{cell, cellsOf}
+use Rattle.rules.specs.Survey.{recordSize, cell, cellsOf}
 use Rattle.rules.specs.Edges.{isEdge}
-use Rattle.rules.specs.Outputs.{rising, surveyRefusal, surveyOf}
+use Rattle.rules.specs.Outputs.{cornerLimit, rising, surveyRefusal, surveyOf}
 use Rattle.records.specs.Keys.{keyOf, placesOf}
 use Rattle.octree.specs.Lawful.{Octree}
 use Rattle.cells.specs.Laid.{cellAt}
@@ -48,8 +48,8 @@ module _ (tc tk : List ℕ) (ok : surveyRefusal tc tk ≡ 0) where
   pub rises-true : rising (placesOf tk) ≡ true
   rises-true = true→ (rising (placesOf tk)) (passes .rises)
 
-  pub corners-few : length tk ≤ 48720
-  corners-few = within-limit (eqb (length tk) 0) (not (eqb (length tk % 10) 0)) 48720 (length tk) (passes .corner-table)
+  pub corners-few : length tk ≤ cornerLimit
+  corners-few = within-limit (eqb (length tk) 0) (not (eqb (length tk % recordSize) 0)) cornerLimit (length tk) (passes .corner-table)
 
   pub cells-few : length tc ≤ 8196
   cells-few = within-limit (eqb (length tc) 0) (not (eqb (length tc % 4) 0)) 8196 (length tc) (passes .cell-table)

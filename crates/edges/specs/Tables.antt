@@ -9,7 +9,7 @@ use lib.ListN.{length, getD}
 use lib.Ieee.{Float}
 use Rattle.base.specs.Lists.{keep, collect, count, bit}
 use Rattle.base.specs.Grid.{Place, origin, Axis, axes, axisNumber, axisOf, move, same}
-use Rattle.rules.specs.Survey.{Cell, cellsOf, cornersOf, wetAt, Survey}
+use Rattle.rules.specs.Survey.{recordCount, Cell, cellsOf, cornersOf, wetAt, Survey}
 use Rattle.rules.specs.Edges.{CellEdge, edge, isEdge, odd, carrier}
 use Rattle.rules.specs.Steps.{twinOf}
 use Rattle.rules.specs.Closing.{cellEdgesOn}
@@ -87,7 +87,7 @@ slotEdge s i =
 
 -- corner record m is at the upper end of the edge of level l that starts at corner record k on axis a
 pub record UpperEnd (tk : List ℕ) (a : Axis) (k l m : ℕ) : Type 0 where
-  pub inside : m < length tk / 10
+  pub inside : m < recordCount tk
   pub place : placeAt (placesOf tk) m ≡ move a (2 ^ l) (placeAt (placesOf tk) k)
 
 -- What is known of slot i stands in three elements of one table, from 3 i on: the lowest level plus 16 times the highest; the corner record at the upper end
@@ -106,11 +106,11 @@ numberAt slots i = getD slots (3 * i + 2) 0
 
 -- g gives for each slot of a corner record f of its axis and place
 abbrev pub Tabled : List ℕ → (Axis → Place → ℕ) → (ℕ → ℕ) → Type 0
-Tabled tk f g = (n k : ℕ) → n < 3 → k < length tk / 10 → g (4872 * n + k) ≡ f (axisOf n) (placeAt (placesOf tk) k)
+Tabled tk f g = (n k : ℕ) → n < 3 → k < recordCount tk → g (4872 * n + k) ≡ f (axisOf n) (placeAt (placesOf tk) k)
 
 -- for each slot at which edges on a list start, g gives the corner record at the upper end of the one of the lowest level
 abbrev pub FarEnds : List ℕ → List CellEdge → (ℕ → ℕ) → Type 0
-FarEnds tk es g = (n k : ℕ) → n < 3 → k < length tk / 10 → lowestIn es (axisOf n) (placeAt (placesOf tk) k) < 11 →
+FarEnds tk es g = (n k : ℕ) → n < 3 → k < recordCount tk → lowestIn es (axisOf n) (placeAt (placesOf tk) k) < 11 →
     UpperEnd tk (axisOf n) k (lowestIn es (axisOf n) (placeAt (placesOf tk) k)) (g (4872 * n + k))
 
 -- what the table holds of the edges on a list: their levels at each slot, and the upper end of the one of the lowest level
@@ -132,7 +132,7 @@ pub record Numbered (tc tk : List ℕ) (clearance : Float) (slots : List ℕ) : 
 -- 1 for each corner record that is wet at the clearance, else 0
 pub record Wets (tk : List ℕ) (clearance : Float) (table : List ℕ) : Type 0 where
   pub size : length table ≡ 4872
-  pub entry : (k : ℕ) → k < length tk / 10 → getD table k 0 ≡ bit (wetAt (cornersOf tk) clearance (placeAt (placesOf tk) k))
+  pub entry : (k : ℕ) → k < recordCount tk → getD table k 0 ≡ bit (wetAt (cornersOf tk) clearance (placeAt (placesOf tk) k))
 
 -- for each point, its slot
 pub record Carriers (s : Survey) (table : List ℕ) : Type 0 where
@@ -148,7 +148,7 @@ pub record Twins (s : Survey) (table : List ℕ) : Type 0 where
 
 -- the edge of level l that starts at corner record k on axis a is there, and is odd
 pub record OddEdge (tc tk : List ℕ) (clearance : Float) (a : Axis) (k l : ℕ) : Type 0 where
-  pub inside : k < length tk / 10
+  pub inside : k < recordCount tk
   pub is-edge : T (isEdge (cellsOf tc) a (placeAt (placesOf tk) k) l)
   pub is-odd : T (odd (wetAt (cornersOf tk) clearance) a (placeAt (placesOf tk) k) l)
 
@@ -160,5 +160,5 @@ pub record CarrierSlot (s : Survey) (a : Axis) (p : Place) (l i : ℕ) : Type 0 
 
 -- What a search for the edge of level l from p on gives: the corner record there, or the number of records where no cell has the edge.
 pub record Sought (tc tk : List ℕ) (a : Axis) (p : Place) (l r : ℕ) : Type 0 where
-  pub found : r < length tk / 10 → T (isEdge (cellsOf tc) a p l) × (placeAt (placesOf tk) r ≡ p)
-  pub none : length tk / 10 ≤ r → isEdge (cellsOf tc) a p l ≡ false
+  pub found : r < recordCount tk → T (isEdge (cellsOf tc) a p l) × (placeAt (placesOf tk) r ≡ p)
+  pub none : recordCount tk ≤ r → isEdge (cellsOf tc) a p l ≡ false

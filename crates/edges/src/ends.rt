@@ -5,7 +5,7 @@ ghost use Prim.Native.Nat.{_/_, _≤_, _<_};
 ghost use lib.Dec.{T, eqb};
 ghost use lib.ListN.{length, getD};
 ghost use Rattle.base.specs.Grid.{axisOf};
-ghost use Rattle.rules.specs.Survey.{cellsOf, cornersOf};
+ghost use Rattle.rules.specs.Survey.{recordCount, cellsOf, cornersOf};
 ghost use Rattle.rules.specs.Edges.{edge, isEdge, spotOn};
 ghost use Rattle.rules.specs.Outputs.{surveyRefusal, accepted, surveyOf};
 ghost use Rattle.places.specs.Places.{asSpot};
@@ -27,7 +27,7 @@ pub fn upper_end(
 ) -> usize
     requires { ⌜ surveyRefusal (now cells) (now corners) ≡ 0 ⌝ }
     requires { ⌜ Levelled (now cells) (now corners) (now slots) ⌝ }
-    requires { ⌜ (axis < 3) × (k < length (now corners) / 10) × T (isEdge (cellsOf (now cells)) (axisOf axis) (placeAt (placesOf (now corners)) k) level) ⌝ }
+    requires { ⌜ (axis < 3) × (k < recordCount (now corners)) × T (isEdge (cellsOf (now cells)) (axisOf axis) (placeAt (placesOf (now corners)) k) level) ⌝ }
     ensures { λ r. ⌜ UpperEnd (now (corners .entry)) (axisOf axis) k level r ⌝ }
 {
     let slot = 4872 * (axis as usize) + k;
@@ -89,7 +89,7 @@ pub fn edge_point(
     level: u8,
 ) -> Point
     requires { ⌜ Corners (now corners) ⌝ }
-    requires { ⌜ (k < length (now corners) / 10) × (level ≤ 10) × UpperEnd (now corners) (axisOf axis) k level end ⌝ }
+    requires { ⌜ (k < recordCount (now corners)) × (level ≤ 10) × UpperEnd (now corners) (axisOf axis) k level end ⌝ }
     ensures { λ r. ⌜ asSpot r ≡ spotOn (cornersOf (now (corners .entry))) clearance (edge (axisOf axis) (placeAt (placesOf (now (corners .entry))) k) level) ⌝ }
 {
     let lower = records::corner_at(corners, k);

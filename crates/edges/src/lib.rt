@@ -11,7 +11,7 @@ ghost use Rattle.base.specs.Grid.{Place, axisOf};
 ghost use Rattle.rules.specs.Survey.{cornersOf, placeOf};
 ghost use Rattle.rules.specs.Edges.{edge, pointEdges, pointOf, spotOn};
 ghost use Rattle.rules.specs.OpenAtBox.{isOuter, openAtBox};
-ghost use Rattle.rules.specs.Outputs.{rising, surveyRefusal, accepted, surveyOf, pointFloats, written};
+ghost use Rattle.rules.specs.Outputs.{cornerLimit, rising, surveyRefusal, accepted, surveyOf, pointFloats, written};
 ghost use Rattle.records.specs.Keys.{keyOf, placesOf, Short};
 ghost use Rattle.places.specs.Places.{asSpot};
 ghost use Rattle.cells.specs.Laid.{Laid};
@@ -53,11 +53,11 @@ fn opens(opened: bool, corner: Corner, wet: bool) -> bool
 // with the same pass.
 pub fn fill_wets(corners: &[u8], clearance: f32, wets: &mut [u8]) -> bool
     requires { ⌜ rising (placesOf (now corners)) ≡ true ⌝ }
-    requires { ⌜ (length (now wets) ≡ 4872) × (length (now corners) ≤ 48720) ⌝ }
+    requires { ⌜ (length (now wets) ≡ 4872) × (length (now corners) ≤ cornerLimit) ⌝ }
     ensures { λ r. ⌜ r ≡ openAtBox (now (corners .entry)) clearance ⌝ }
     ensures { λ _. ⌜ Wets (now (corners .entry)) clearance (now (wets .exit)) ⌝ }
 {
-    let count = corners.len() / 10;
+    let count = corners.len() / records::SIZE;
     let mut opened = false;
     let mut k: usize = 0;
     while k < count {
@@ -86,7 +86,7 @@ pub fn is_crossed(
     ensures { λ r. ⌜ r ≡ crossedSlot (surveyOf (now (cells .entry)) (now (corners .entry)) clearance) slot ⌝ }
 {
     let k = slot % 4872;
-    if k >= corners.len() / 10 {
+    if k >= corners.len() / records::SIZE {
         return false;
     }
     if table::lowest(slots, slot) > 10 {
@@ -124,7 +124,7 @@ pub fn number_slots(
     ensures { λ _. ⌜ Numbered (now (cells .entry)) (now (corners .entry)) clearance (now (slots .exit)) ⌝ }
     ensures { λ _. ⌜ Carriers (surveyOf (now (cells .entry)) (now (corners .entry)) clearance) (now (carriers .exit)) ⌝ }
 {
-    let count = corners.len() / 10;
+    let count = corners.len() / records::SIZE;
     let mut n: usize = 0;
     let mut slot: usize = 0;
     while slot < 14616 {
@@ -177,7 +177,7 @@ pub fn edge_record(
     requires { ⌜ axis < 3 ⌝ }
     ensures { λ r. ⌜ ((p : Place) → Short p → key ≡ keyOf p → Sought (now (cells .entry)) (now (corners .entry)) (axisOf axis) p level r) ⌝ }
 {
-    let count = corners.len() / 10;
+    let count = corners.len() / records::SIZE;
     let k = reader::find(corners, key);
     if k >= count {
         return count;

@@ -41,7 +41,7 @@ fn count_crossed(
     requires { ⌜ (slot < 14616) × T (crossedSlot (surveyOf (now cells) (now corners) clearance) slot) ⌝ }
     ensures { λ r. ⌜ r ≡ length (slotsBelow (surveyOf (now (cells .entry)) (now (corners .entry)) clearance) slot) ⌝ }
 {
-    let count = corners.len() / 10;
+    let count = corners.len() / records::SIZE;
     let mut n: usize = 0;
     let mut i: usize = 0;
     while i < slot {
@@ -75,7 +75,7 @@ fn edge_answer(
         answered r ≡ edgeAnswer (now (cells .entry)) (now (corners .entry)) clearance (axisOf axis) p level) ⌝ }
 {
     let k = edges::edge_record(cells, corners, clearance, slots, axis, key, level);
-    if k >= corners.len() / 10 {
+    if k >= corners.len() / records::SIZE {
         return Answer::Refused(11);
     }
     let end = edges::ends::upper_end(cells, corners, slots, axis, k, level);

@@ -4,6 +4,7 @@ use mathlib.Core.Path.{_≡_}
 use mathlib.Core.List.{List}
 use lib.ListN.{length, getD}
 use Rattle.base.specs.Grid.{Place, origin, octants}
+use Rattle.rules.specs.Survey.{recordCount}
 use Rattle.records.specs.Keys.{placesOf, recordAt}
 use Rattle.cells.specs.Laid.{cellAt, octantKey, keyIn, levelIn}
 
@@ -19,7 +20,7 @@ octantOf tc n i = getD (octants (2 ^ cellAt tc n .level) (cellAt tc n .low)) i o
 
 -- the number k is that of the corner record at corner i of the cell of record n
 pub record Octant (tc tk : List ℕ) (n i k : ℕ) : Type 0 where
-  pub number : k < length tk / 10
+  pub number : k < recordCount tk
   pub place : getD (placesOf tk) k origin ≡ octantOf tc n i
 
 -- the table holds the corners of all cells

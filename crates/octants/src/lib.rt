@@ -3,7 +3,7 @@ ghost use mathlib.Core.Path.{_≡_};
 ghost use mathlib.Core.Bool.{true};
 ghost use Prim.Native.Nat.{ℕ, _+_, _*_, _^_, _≤_, _<_};
 ghost use lib.ListN.{length};
-ghost use Rattle.rules.specs.Outputs.{rising};
+ghost use Rattle.rules.specs.Outputs.{cornerLimit, rising};
 ghost use Rattle.records.specs.Keys.{placesOf, recordAt};
 ghost use Rattle.cells.specs.Laid.{octantKey, writtenAt, levelIn};
 ghost use Rattle.octants.specs.Octants.{LookedUp};
@@ -18,7 +18,7 @@ fn fill_cell(
     octants: &mut [u16],
 )
     requires { ⌜ rising (placesOf (now corners)) ≡ true ⌝ }
-    requires { ⌜ (length (now corners) ≤ 48720) × (length (now octants) ≡ 16392) ⌝ }
+    requires { ⌜ (length (now corners) ≤ cornerLimit) × (length (now octants) ≡ 16392) ⌝ }
     requires { ⌜ (n < 2049) × (key ≤ 9223372036854775808) × (level ≤ 10) ⌝ }
     ensures { λ _. ⌜ now (octants .exit)
         ≡ writtenAt (λ i. recordAt (now (corners .entry)) (key + octantKey i (2 ^ level))) (8 * n) 8 (now (octants .entry)) ⌝ }
@@ -38,7 +38,7 @@ fn fill_cell(
 // The corners of the first cells, by their keys and levels.
 fn fill_cells(corners: &[u8], hints: &[u16; 8192], laid: &[u64], cells: usize, octants: &mut [u16])
     requires { ⌜ rising (placesOf (now corners)) ≡ true ⌝ }
-    requires { ⌜ (length (now corners) ≤ 48720) × (length (now octants) ≡ 16392) ⌝ }
+    requires { ⌜ (length (now corners) ≤ cornerLimit) × (length (now octants) ≡ 16392) ⌝ }
     requires { ⌜ (cells ≤ 2049) × (cells ≤ length (now laid)) ⌝ }
     requires { ⌜ ((n : ℕ) → n < cells → levelIn (now laid) n ≤ 10) ⌝ }
     ensures { λ _. ⌜ LookedUp (now (corners .entry)) (now (laid .entry)) (now (octants .exit)) cells ⌝ }
@@ -55,7 +55,7 @@ fn fill_cells(corners: &[u8], hints: &[u16; 8192], laid: &[u64], cells: usize, o
 // The table of the corners of the first cells, filled by their keys and levels. Hints spare nearly every search.
 pub fn fill(corners: &[u8], laid: &[u64], cells: usize, octants: &mut [u16])
     requires { ⌜ rising (placesOf (now corners)) ≡ true ⌝ }
-    requires { ⌜ (length (now corners) ≤ 48720) × (length (now octants) ≡ 16392) ⌝ }
+    requires { ⌜ (length (now corners) ≤ cornerLimit) × (length (now octants) ≡ 16392) ⌝ }
     requires { ⌜ (cells ≤ 2049) × (cells ≤ length (now laid)) ⌝ }
     requires { ⌜ ((n : ℕ) → n < cells → levelIn (now laid) n ≤ 10) ⌝ }
     ensures { λ _. ⌜ LookedUp (now (corners .entry)) (now (laid .entry)) (now (octants .exit)) cells ⌝ }

@@ -9,9 +9,9 @@ use lib.Ieee.{Float}
 use borrow.Author.Tests.{eq-eqb, ne-eqb}
 use Rattle.base.specs.Lists.{any, all}
 use Rattle.base.specs.Grid.{Place, same, octants}
-use Rattle.rules.specs.Survey.{Cell, cell, size, entries, cellsOf, cellCorners, cornersOf, placeOf}
+use Rattle.rules.specs.Survey.{recordSize, Cell, cell, size, entries, cellsOf, cellCorners, cornersOf, placeOf}
 use Rattle.rules.specs.OpenAtBox.{openAtBox}
-use Rattle.rules.specs.Outputs.{badTable, entriesRight, rising, cornersRight, inRange, firstOf, surveyChecks, surveyRefusal, checks, accepted}
+use Rattle.rules.specs.Outputs.{cornerLimit, badTable, entriesRight, rising, cornersRight, inRange, firstOf, surveyChecks, surveyRefusal, checks, accepted}
 use Rattle.rules.specs.Outputs.{drawingChecks, drawable, surveyOf}
 use Rattle.rules.specs.declared.Corner.{Corner}
 use Rattle.base.proofs.Tests.{and→, either, not-both, eq→eqb, false→, →true, →false}
@@ -91,7 +91,7 @@ module _ (ts : List (ℕ × Bool)) (none-zero : T (numbered ts)) (k : ℕ) (b : 
 -- what a survey that checks 1 to 7 pass has
 pub record Checked (tc tk : List ℕ) : Type 0 where
   pub cell-table : badTable 4 8196 tc ≡ false
-  pub corner-table : badTable 10 48720 tk ≡ false
+  pub corner-table : badTable recordSize cornerLimit tk ≡ false
   pub entries-right : T (entriesRight 0 0 (entries tc))
   pub units-whole : T (not (any (λ c. c .split && eqb (c .level) 0) (cellsOf tc)))
   pub rises : T (rising (map placeOf (cornersOf tk)))
@@ -115,7 +115,7 @@ checked tc tk h =
     let passes : (t : ℕ × Bool) → In t (surveyChecks tc tk) → t .1 ≡ false = none-applies (surveyChecks tc tk) tt h in
     record {
       cell-table = passes (1, badTable 4 8196 tc) (inl refl);
-      corner-table = passes (2, badTable 10 48720 tk) (inr (inl refl));
+      corner-table = passes (2, badTable recordSize cornerLimit tk) (inr (inl refl));
       entries-right = passed (entriesRight 0 0 (entries tc)) (passes (3, not (entriesRight 0 0 (entries tc))) (inr (inr (inl refl))));
       units-whole = →false (passes (4, any (λ c. c .split && eqb (c .level) 0) (cellsOf tc)) (inr (inr (inr (inl refl)))));
       rises = passed (rising (map placeOf (cornersOf tk))) (passes (5, not (rising (map placeOf (cornersOf tk)))) (inr (inr (inr (inr (inl refl))))));

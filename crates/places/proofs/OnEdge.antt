@@ -1,18 +1,17 @@
 -- In an accepted survey every edge has two listed corners as its ends, within the box. So what request 2 of document 02 says of places holds of every odd edge,
 -- and the place of every point lies on the edge that carries it.
 -- Assumes nothing.
-use Prim.Native.Nat.{ℕ, _*_, _/_}
+use Prim.Native.Nat.{ℕ}
 use mathlib.Core.Path.{sym, subst}
 use mathlib.Core.List.{List}
 use native.Mathlib.Omega.{arith}
 use lib.Dec.{T}
-use lib.ListN.{length}
 use lib.Ieee.{Float, binary32, fits}
 use lib.Ieee.Bits.{ofBits-fits}
 use Rattle.base.specs.Lists.{any, count, little, bytes}
 use Rattle.base.specs.Grid.{Place, same}
 use Rattle.base.proofs.Lists.{In, in-map}
-use Rattle.rules.specs.Survey.{cornerRecord, cornersOf, cornerAt, Survey}
+use Rattle.rules.specs.Survey.{recordCount, recordBytes, cornerRecord, cornersOf, cornerAt, Survey}
 use Rattle.rules.specs.Edges.{CellEdge, upperEnd, isEdge, spotOn, OnEdge}
 use Rattle.rules.specs.Outputs.{inRange, surveyOf, accepted}
 use Rattle.rules.specs.Closing.{Carries, isOdd}
@@ -34,12 +33,12 @@ ends-listed s law e t = (lower-end s law (e .axis) (e .low) (e .level) t, upper-
 
 record-fits : (t : List ℕ) (k : ℕ) → T (fits binary32 (cornerRecord t k .sounding))
 unfolding cornerRecord
-record-fits t k = ofBits-fits binary32 (little (bytes (bytes t (10 * k) 10) 6 4))
+record-fits t k = ofBits-fits binary32 (little (bytes (recordBytes t k) 6 4))
 
 sounding-in : (t : List ℕ) → ((c : Corner) → In c (cornersOf t) → T (inRange (c .sounding))) → (c : Corner) → In c (cornersOf t) → Sounding (c .sounding)
 unfolding cornersOf
 sounding-in t h c i =
-    let (k, j, e) = in-map (cornerRecord t) (count 0 (length t / 10)) c i in
+    let (k, j, e) = in-map (cornerRecord t) (count 0 (recordCount t)) c i in
     record { in-range = h c i; holds = subst (λ x. T (fits binary32 (x .sounding))) (sym e) (record-fits t k) }
 
 module _ (tc tk : List ℕ) (clearance : Float) (ok : T (accepted tc tk clearance)) where

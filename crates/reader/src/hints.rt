@@ -7,7 +7,7 @@ ghost use mathlib.Core.Path.{_≡_};
 ghost use mathlib.Core.Bool.{true};
 ghost use Prim.Native.Nat.{_<_, _≤_};
 ghost use lib.ListN.{length};
-ghost use Rattle.rules.specs.Outputs.{rising};
+ghost use Rattle.rules.specs.Outputs.{cornerLimit, rising};
 ghost use Rattle.records.specs.Keys.{placesOf, recordAt};
 
 // A key with its digits mixed. Any number serves; the factors spread the corners of an octree over the table.
@@ -47,9 +47,9 @@ fn enter(hints: &mut [u16; 8192], mix: u64, k: u16)
 
 // Enters every record of a corner table as a hint.
 pub fn fill(corners: &[u8], hints: &mut [u16; 8192])
-    requires { ⌜ length (now corners) ≤ 48720 ⌝ }
+    requires { ⌜ length (now corners) ≤ cornerLimit ⌝ }
 {
-    let count = corners.len() / 10;
+    let count = corners.len() / records::SIZE;
     let mut k: usize = 0;
     while k < count {
         enter(hints, mixed(records::key_at(corners, k)), k as u16);

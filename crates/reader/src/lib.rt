@@ -3,8 +3,7 @@
 ghost use mathlib.Core.Path.{_≡_};
 ghost use mathlib.Core.Bool.{true};
 ghost use Prim.Native.Nat.{ℕ, _+_, _*_, _≤_, _<_, _/_};
-ghost use lib.ListN.{length};
-ghost use Rattle.rules.specs.Survey.{cornerRecord, placeOf};
+ghost use Rattle.rules.specs.Survey.{recordCount, cornerRecord, placeOf};
 ghost use Rattle.rules.specs.Outputs.{rising};
 ghost use Rattle.records.specs.Keys.{keyOf, placesOf, recordAt};
 ghost use Rattle.reader.specs.Ordered.{Ordered};
@@ -19,14 +18,14 @@ pub struct Reader<'a> {
 
 // How many records there are.
 pub fn count_of(bytes: &[u8]) -> usize
-    ensures { λ r. ⌜ r ≡ length (now (bytes .entry)) / 10 ⌝ }
+    ensures { λ r. ⌜ r ≡ recordCount (now (bytes .entry)) ⌝ }
 {
-    bytes.len() / 10
+    bytes.len() / records::SIZE
 }
 
 // 1 if there is a record `at` and its key is smaller, else 0.
 fn is_below(corners: &[u8], count: usize, key: u64, at: usize) -> usize
-    requires { ⌜ count ≡ length (now corners) / 10 ⌝ }
+    requires { ⌜ count ≡ recordCount (now corners) ⌝ }
     ensures { λ r. ⌜ r ≤ 1 ⌝ }
     ensures { λ r. ⌜ (1 ≤ r → (at < count) × (keyOf (placeOf (cornerRecord (now (corners .entry)) at)) < key)) ⌝ }
     ensures { λ r. ⌜ (r < 1 → at < count → key ≤ keyOf (placeOf (cornerRecord (now (corners .entry)) at))) ⌝ }
@@ -81,7 +80,7 @@ fn find_in(corners: &[u8], count: usize, key: u64, guess: usize) -> usize
 
 // The reader over some bytes.
 pub fn laid<'a>(bytes: &'a [u8]) -> Reader<'a>
-    ensures { λ r. ⌜ (r .bytes ≡ bytes .entry) × (r .count ≡ length (now (bytes .entry)) / 10) ⌝ }
+    ensures { λ r. ⌜ (r .bytes ≡ bytes .entry) × (r .count ≡ recordCount (now (bytes .entry))) ⌝ }
 {
     Reader {
         bytes,
@@ -110,5 +109,5 @@ pub fn find(corners: &[u8], key: u64) -> usize
     requires { ⌜ rising (placesOf (now corners)) ≡ true ⌝ }
     ensures { λ r. ⌜ r ≡ recordAt (now (corners .entry)) key ⌝ }
 {
-    find_near(corners, key, corners.len() / 10)
+    find_near(corners, key, corners.len() / records::SIZE)
 }

@@ -10,7 +10,7 @@ use lib.ListN.{length, getD, take, drop}
 use lib.Seq.{drop-cons, take-take, drop-drop}
 use lib.Ieee.{Float, binary32, ofBits}
 use Rattle.base.specs.Lists.{little, bytes}
-use Rattle.rules.specs.Survey.{cornerRecord}
+use Rattle.rules.specs.Survey.{recordSize, recordBytes, cornerRecord}
 use Rattle.rules.specs.declared.Corner.{Corner}
 
 -- the first of some bytes, and those after it
@@ -47,14 +47,14 @@ pub part : (t : List ℕ) (at m i n : ℕ) → i + n ≤ m → bytes (bytes t at
 part t at m i n h = part-of (drop at t) i n m h ∙ ap (take n) (drop-drop i at t)
 
 -- a corner record, from its numbers as they stand in the table
-pub corner-is : (t : List ℕ) (k : ℕ) {x y z : ℕ} {v : Float} → x ≡ little (bytes t (10 * k) 2) → y ≡ little (bytes t (10 * k + 2) 2)
-    → z ≡ little (bytes t (10 * k + 4) 2) → v ≡ ofBits binary32 (little (bytes t (10 * k + 6) 4))
+pub corner-is : (t : List ℕ) (k : ℕ) {x y z : ℕ} {v : Float} → x ≡ little (bytes t (recordSize * k) 2) → y ≡ little (bytes t (recordSize * k + 2) 2)
+    → z ≡ little (bytes t (recordSize * k + 4) 2) → v ≡ ofBits binary32 (little (bytes t (recordSize * k + 6) 4))
     → _≡_ {A = Corner} (record { x = x; y = y; z = z; sounding = v }) (cornerRecord t k)
 unfolding cornerRecord
 corner-is t k ex ey ez ev =
-    let from : (i n : ℕ) → i + n ≤ 10 → little (bytes t (10 * k + i) n)
-    ≡ little (bytes (bytes t (10 * k) 10) i n) = λ i n h. ap little (sym (part t (10 * k) 10 i n h)) in
-    let low : little (bytes t (10 * k) 2) ≡ little (bytes (bytes t (10 * k) 10) 0 2) = ap (λ j. little (bytes t j 2)) (sym (add-zero (10 * k)))
+    let from : (i n : ℕ) → i + n ≤ recordSize → little (bytes t (recordSize * k + i) n)
+    ≡ little (bytes (recordBytes t k) i n) = λ i n h. ap little (sym (part t (recordSize * k) recordSize i n h)) in
+    let low : little (bytes t (recordSize * k) 2) ≡ little (bytes (recordBytes t k) 0 2) = ap (λ j. little (bytes t j 2)) (sym (add-zero (recordSize * k)))
     ∙ from 0 2 (lit≤ tt) in
     λ i. record {
       x = (ex ∙ low) i;

@@ -1,5 +1,5 @@
 -- What a look-up by key finds: the record at the place, which is the corner that the rules take there.
-use Prim.Native.Nat.{ℕ, suc, _/_, _<_}
+use Prim.Native.Nat.{ℕ, suc, _<_}
 use mathlib.Core.Path.{_≡_, refl, sym, ap, _∙_}
 use mathlib.Core.Bool.{Bool, false}
 use mathlib.Core.List.{List, [], _∷_, map}
@@ -11,7 +11,7 @@ use lib.Ieee.{fin}
 use Rattle.base.specs.Lists.{any, position}
 use Rattle.base.specs.Grid.{Place, same}
 use Rattle.base.proofs.Below.{position-same, first-position, any-position, position-any}
-use Rattle.rules.specs.Survey.{cornerRecord, cornersOf, placeOf, cornerAt}
+use Rattle.rules.specs.Survey.{recordCount, cornerRecord, cornersOf, placeOf, cornerAt}
 use Rattle.rules.specs.declared.Corner.{Corner}
 use Rattle.records.specs.Keys.{keyOf, placesOf, recordAt, Short}
 use Rattle.records.proofs.Keys.{Bytes, nowhere, same-key, record-short, get-corner, get-place, length-places}
@@ -30,11 +30,11 @@ module _ (t : List ℕ) (b : Bytes t) (p : Place) (fits : Short p) where
   unfolding recordAt
   record-at-place =
       position-same (λ q. eqb (keyOf p) (keyOf q)) (same p) (placeOf nowhere) (placesOf t) 0
-      (λ j l. let h : j < length t / 10 = rw (length-places t) at l in
+      (λ j l. let h : j < recordCount t = rw (length-places t) at l in
       rw (get-place t j h) (sym (same-key p (placeOf (cornerRecord t j)) fits (record-short t b j h))))
 
   -- it finds the corner that the rules take at the place
-  pub corner-found : recordAt t (keyOf p) < length t / 10 → cornerAt (cornersOf t) p ≡ cornerRecord t (recordAt t (keyOf p))
+  pub corner-found : recordAt t (keyOf p) < recordCount t → cornerAt (cornersOf t) p ≡ cornerRecord t (recordAt t (keyOf p))
   unfolding cornerAt
   corner-found h =
       first-position (λ c. same p (placeOf c)) (missing p) (cornersOf t)
@@ -42,8 +42,8 @@ module _ (t : List ℕ) (b : Bytes t) (p : Place) (fits : Short p) where
       ∙ get-corner t (recordAt t (keyOf p)) (missing p) h
 
   -- a listed place is found, and what is found is listed
-  pub listed-found : T (any (same p) (placesOf t)) → recordAt t (keyOf p) < length t / 10
+  pub listed-found : T (any (same p) (placesOf t)) → recordAt t (keyOf p) < recordCount t
   listed-found s = rw record-at-place (omega (arith, position-any (same p) (placesOf t) 0 s, length-places t))
 
-  pub found-listed : recordAt t (keyOf p) < length t / 10 → T (any (same p) (placesOf t))
+  pub found-listed : recordAt t (keyOf p) < recordCount t → T (any (same p) (placesOf t))
   found-listed h = any-position (same p) (placesOf t) 0 (omega (arith, record-at-place, length-places t))

@@ -1,5 +1,5 @@
 -- Keys in order: the order by one key is the order by z, then y, then x; and what a strict rise gives a search.
-use Prim.Native.Nat.{ℕ, _+_, _*_, _/_, _≤_, _<_}
+use Prim.Native.Nat.{ℕ, _+_, _*_, _≤_, _<_}
 use mathlib.Core.Path.{_≡_, sym, ap, _∙_}
 use mathlib.Core.List.{List}
 use native.Mathlib.Decide.{ℕ-discrete, decLt}
@@ -13,7 +13,7 @@ use borrow.Author.Tests.{lt-ltb, le-ltb, eq-eqb, ne-eqb}
 use Rattle.base.specs.Lists.{little, bytes}
 use Rattle.base.specs.Grid.{Place, same}
 use Rattle.base.proofs.Below.{get-table, length-table}
-use Rattle.rules.specs.Survey.{cornerRecord, cornersOf, placeOf}
+use Rattle.rules.specs.Survey.{recordSize, recordCount, recordBytes, cornerRecord, cornersOf, placeOf}
 use Rattle.rules.specs.Outputs.{before}
 use Rattle.rules.specs.declared.Corner.{Corner}
 use Rattle.records.specs.Keys.{keyOf, placesOf, Short}
@@ -97,25 +97,25 @@ Bytes t = (i : ℕ) → Fits w8 (getD t i 0)
 -- ---- the places of a corner table
 
 -- record k is inside the table
-pub inside : (t : List ℕ) (k : ℕ) → k < length t / 10 → 10 * k + 10 ≤ length t
+pub inside : (t : List ℕ) (k : ℕ) → k < recordCount t → recordSize * k + recordSize ≤ length t
 inside t k h = omega arith
 
-pub length-corners : (t : List ℕ) → length (cornersOf t) ≡ length t / 10
+pub length-corners : (t : List ℕ) → length (cornersOf t) ≡ recordCount t
 unfolding cornersOf
-length-corners t = length-table (cornerRecord t) (length t / 10)
+length-corners t = length-table (cornerRecord t) (recordCount t)
 
-pub get-corner : (t : List ℕ) (k : ℕ) (d : Corner) → k < length t / 10 → getD (cornersOf t) k d ≡ cornerRecord t k
+pub get-corner : (t : List ℕ) (k : ℕ) (d : Corner) → k < recordCount t → getD (cornersOf t) k d ≡ cornerRecord t k
 unfolding cornersOf
-get-corner t k d h = get-table (cornerRecord t) d (length t / 10) k h
+get-corner t k d h = get-table (cornerRecord t) d (recordCount t) k h
 
-pub length-places : (t : List ℕ) → length (placesOf t) ≡ length t / 10
+pub length-places : (t : List ℕ) → length (placesOf t) ≡ recordCount t
 length-places t = length-map (cornersOf t) placeOf ∙ length-corners t
 
 -- the place that stands for one beyond the end
 abbrev pub nowhere : Corner
 nowhere = record { x = 0; y = 0; z = 0; sounding = nan }
 
-pub get-place : (t : List ℕ) (k : ℕ) → k < length t / 10 → getD (placesOf t) k (placeOf nowhere) ≡ placeOf (cornerRecord t k)
+pub get-place : (t : List ℕ) (k : ℕ) → k < recordCount t → getD (placesOf t) k (placeOf nowhere) ≡ placeOf (cornerRecord t k)
 get-place t k h = List·getD-map placeOf (cornersOf t) k nowhere ∙ ap placeOf (get-corner t k nowhere h)
 
 -- a number of two bytes fits 16 bits
@@ -123,9 +123,9 @@ two-fit : (t : List ℕ) → Bytes t → (at : ℕ) → at + 2 ≤ length t → 
 two-fit t b at h = rw (little-two t at h) (omega (arith, b at .fits, b (at + 1) .fits))
 
 module _ (t : List ℕ) (b : Bytes t) where
-  part-fits : (k i : ℕ) → k < length t / 10 → i + 2 ≤ 10 → little (bytes (bytes t (10 * k) 10) i 2) < 65536
-  part-fits k i h g = rw (part t (10 * k) 10 i 2 g) (two-fit t b (10 * k + i) (omega arith))
+  part-fits : (k i : ℕ) → k < recordCount t → i + 2 ≤ recordSize → little (bytes (recordBytes t k) i 2) < 65536
+  part-fits k i h g = rw (part t (recordSize * k) recordSize i 2 g) (two-fit t b (recordSize * k + i) (omega arith))
 
-  pub record-short : (k : ℕ) → k < length t / 10 → Short (placeOf (cornerRecord t k))
+  pub record-short : (k : ℕ) → k < recordCount t → Short (placeOf (cornerRecord t k))
   unfolding cornerRecord
   record-short k h = record { x-fits = part-fits k 0 h (lit≤ tt); y-fits = part-fits k 2 h (lit≤ tt) }

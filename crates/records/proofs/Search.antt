@@ -1,5 +1,5 @@
 -- Records that rise: check 5 record by record, and a search by quartering for the record with a key.
-use Prim.Native.Nat.{ℕ, zero, suc, _+_, _*_, _/_, _≤_, _<_}
+use Prim.Native.Nat.{ℕ, zero, suc, _+_, _*_, _≤_, _<_}
 use mathlib.Core.Path.{_≡_, refl, sym, ap, _∙_}
 use mathlib.Core.Bool.{Bool, true, false, _&&_, false≢true}
 use mathlib.Core.List.{List, [], _∷_}
@@ -12,7 +12,7 @@ use lib.ListN.{length, getD, drop, length-drop}
 use borrow.Author.Tests.{lt-ltb, le-ltb, eq-eqb, ne-eqb, ltb-true}
 use Rattle.base.specs.Grid.{Place}
 use Rattle.base.proofs.Below.{rest, position-at, position-none, position-le}
-use Rattle.rules.specs.Survey.{cornerRecord, placeOf}
+use Rattle.rules.specs.Survey.{recordCount, cornerRecord, placeOf}
 use Rattle.rules.specs.Outputs.{before, rising}
 use Rattle.records.specs.Keys.{keyOf, placesOf, recordAt}
 use Rattle.records.proofs.Keys.{Bytes, nowhere, before-key, record-short, get-place, length-places}
@@ -39,30 +39,30 @@ rising-short (p ∷ []) h = refl
 rising-short (p ∷ q ∷ r) h = absurd (omega arith)
 
 module _ (t : List ℕ) (b : Bytes t) where
-  next-before : (i : ℕ) → i + 1 < length t / 10
+  next-before : (i : ℕ) → i + 1 < recordCount t
       → before (getD (placesOf t) i (placeOf nowhere)) (getD (placesOf t) (i + 1) (placeOf nowhere)) ≡ ltb (keyAt t i) (keyAt t (i + 1))
   next-before i h =
       rw (get-place t i (omega arith), get-place t (i + 1) h)
       (before-key (placeOf (cornerRecord t i)) (placeOf (cornerRecord t (i + 1))) (record-short t b i (omega arith)) (record-short t b (i + 1) h))
 
-  turn : (i : ℕ) → i + 1 < length t / 10 → rising (drop i (placesOf t)) ≡ ltb (keyAt t i) (keyAt t (i + 1)) && rising (drop (i + 1) (placesOf t))
+  turn : (i : ℕ) → i + 1 < recordCount t → rising (drop i (placesOf t)) ≡ ltb (keyAt t i) (keyAt t (i + 1)) && rising (drop (i + 1) (placesOf t))
   turn i h =
       rising-turn (placesOf t) (placeOf nowhere) i (rw (length-places t) h)
       ∙ ap (λ w. w && rising (drop (i + 1) (placesOf t))) (next-before i h)
 
-  pub rise-breaks : (i : ℕ) → i + 1 < length t / 10 → keyAt t (i + 1) ≤ keyAt t i → rising (drop i (placesOf t)) ≡ false
+  pub rise-breaks : (i : ℕ) → i + 1 < recordCount t → keyAt t (i + 1) ≤ keyAt t i → rising (drop i (placesOf t)) ≡ false
   rise-breaks i h g = turn i h ∙ rw (le-ltb (keyAt t i) (keyAt t (i + 1)) g)
 
-  pub rise-goes-on : (i : ℕ) → i + 1 < length t / 10 → keyAt t i < keyAt t (i + 1) → rising (drop (i + 1) (placesOf t)) ≡ rising (drop i (placesOf t))
+  pub rise-goes-on : (i : ℕ) → i + 1 < recordCount t → keyAt t i < keyAt t (i + 1) → rising (drop (i + 1) (placesOf t)) ≡ rising (drop i (placesOf t))
   rise-goes-on i h g = sym (turn i h ∙ rw (lt-ltb (keyAt t i) (keyAt t (i + 1)) g))
 
-  pub rise-ends : (i : ℕ) → length t / 10 ≤ i + 1 → rising (drop i (placesOf t)) ≡ true
+  pub rise-ends : (i : ℕ) → recordCount t ≤ i + 1 → rising (drop i (placesOf t)) ≡ true
   rise-ends i h = rising-short (drop i (placesOf t)) (rw (length-drop i (placesOf t), length-places t) (omega arith))
 
   -- ---- what a strict rise gives
 
   module _ (up : rising (placesOf t) ≡ true) where
-    left : (i : ℕ) → i < length t / 10 → rising (drop i (placesOf t)) ≡ true
+    left : (i : ℕ) → i < recordCount t → rising (drop i (placesOf t)) ≡ true
     left zero h = up
     left (suc i) h = rw add-one at (go (ltb (keyAt t i) (keyAt t (i + 1))) (rising (drop (i + 1) (placesOf t))) (sym (left i (omega arith))
         ∙ turn i (omega arith)))
@@ -71,7 +71,7 @@ module _ (t : List ℕ) (b : Bytes t) where
         go true c e = sym e
         go false c e = absurd (false≢true (sym e))
 
-    step : (i : ℕ) → i + 1 < length t / 10 → keyAt t i < keyAt t (i + 1)
+    step : (i : ℕ) → i + 1 < recordCount t → keyAt t i < keyAt t (i + 1)
     step i h = ltb-true (keyAt t i) (keyAt t (i + 1)) (go (ltb (keyAt t i) (keyAt t (i + 1))) (rising (drop (i + 1) (placesOf t))) (sym (left i
         (omega arith)) ∙ turn i h))
       where
@@ -80,7 +80,7 @@ module _ (t : List ℕ) (b : Bytes t) where
         go false c e = sym e
 
     -- an earlier record has a smaller key
-    pub keys-rise : (i j : ℕ) → i < j → j < length t / 10 → keyAt t i < keyAt t j
+    pub keys-rise : (i j : ℕ) → i < j → j < recordCount t → keyAt t i < keyAt t j
     keys-rise i zero h l = absurd (omega arith)
     keys-rise i (suc m) h l = go (ℕ-discrete i m) (λ q. keys-rise i m q (omega arith))
       where
@@ -91,14 +91,14 @@ module _ (t : List ℕ) (b : Bytes t) where
         go (yes q) f = rw q next
         go (no q) f = omega (arith, f (omega arith), next)
 
-    pub below-middle : (m k : ℕ) → m < length t / 10 → keyAt t m < k → (j : ℕ) → j < m + 1 → keyAt t j < k
+    pub below-middle : (m k : ℕ) → m < recordCount t → keyAt t m < k → (j : ℕ) → j < m + 1 → keyAt t j < k
     below-middle m k l h j q = go (ℕ-discrete j m)
       where
         go : Dec (j ≡ m) → keyAt t j < k
         go (yes e) = rw e h
         go (no e) = omega (arith, keys-rise j m (omega arith) l)
 
-    pub from-middle : (m k : ℕ) → k ≤ keyAt t m → (j : ℕ) → m ≤ j → j < length t / 10 → k ≤ keyAt t j
+    pub from-middle : (m k : ℕ) → k ≤ keyAt t m → (j : ℕ) → m ≤ j → j < recordCount t → k ≤ keyAt t j
     from-middle m k h j q l = go (ℕ-discrete j m)
       where
         go : Dec (j ≡ m) → k ≤ keyAt t j
@@ -111,7 +111,7 @@ module _ (t : List ℕ) (b : Bytes t) where
     abbrev pub Look : ℕ → ℕ → ℕ → ℕ → Type 0
     Look n k m r = (r ≤ 1) × ((1 ≤ r → (m < n) × (keyAt t m < k)) × (r < 1 → m < n → k ≤ keyAt t m))
 
-    module _ (n k low size a c d : ℕ) (same : n ≡ length t / 10)
+    module _ (n k low size a c d : ℕ) (same : n ≡ recordCount t)
         (f : Look n k (low + size) a) (g : Look n k (low + size + (size + 1)) c) (h : Look n k (low + size + 2 * (size + 1)) d) where
       -- so many steps, held to a number that is known
       at-most : (m : ℕ) → a + c + d ≤ m → (a + c + d) * (size + 1) ≤ m * (size + 1)
@@ -178,28 +178,28 @@ module _ (t : List ℕ) (k : ℕ) where
 -- ---- where the search ends
 
 module _ (t : List ℕ) (k : ℕ) where
-  at-record : (j : ℕ) (r : Bool) → j < length t / 10 → eqb k (keyAt t j) ≡ r → eqb k (keyOf (getD (placesOf t) j (placeOf nowhere))) ≡ r
+  at-record : (j : ℕ) (r : Bool) → j < recordCount t → eqb k (keyAt t j) ≡ r → eqb k (keyOf (getD (placesOf t) j (placeOf nowhere))) ≡ r
   at-record j r h e = rw (get-place t j h) e
 
-  pub is-at : (i : ℕ) → i < length t / 10 → k ≡ keyAt t i → ((j : ℕ) → j < i → keyAt t j < k) → i ≡ recordAt t k
+  pub is-at : (i : ℕ) → i < recordCount t → k ≡ keyAt t i → ((j : ℕ) → j < i → keyAt t j < k) → i ≡ recordAt t k
   unfolding recordAt
   is-at i h e g =
       sym (position-at (λ p. eqb k (keyOf p)) (placeOf nowhere) (placesOf t) 0 i (rw (length-places t) h)
       (at-record i true h (eq-eqb k (keyAt t i) e))
       (λ j l. at-record j false (omega arith) (ne-eqb k (keyAt t j) (λ q. omega (arith, g j l)))) ∙ zero-add i)
 
-  pub is-nowhere : (i : ℕ) → ((j : ℕ) → j < i → keyAt t j < k) → ((j : ℕ) → i ≤ j → j < length t / 10 → k < keyAt t j) → length t / 10 ≡ recordAt t k
+  pub is-nowhere : (i : ℕ) → ((j : ℕ) → j < i → keyAt t j < k) → ((j : ℕ) → i ≤ j → j < recordCount t → k < keyAt t j) → recordCount t ≡ recordAt t k
   unfolding recordAt
   is-nowhere i g f =
       sym (position-none (λ p. eqb k (keyOf p)) (placeOf nowhere) (placesOf t) 0
-      (λ j l. let h : j < length t / 10 = rw (length-places t) at l in at-record j false h (ne-eqb k (keyAt t j) (go j h (decLt j i))))
+      (λ j l. let h : j < recordCount t = rw (length-places t) at l in at-record j false h (ne-eqb k (keyAt t j) (go j h (decLt j i))))
       ∙ zero-add (length (placesOf t)) ∙ length-places t)
     where
-      go : (j : ℕ) → j < length t / 10 → Dec (j < i) → k ≡ keyAt t j → ⊥
+      go : (j : ℕ) → j < recordCount t → Dec (j < i) → k ≡ keyAt t j → ⊥
       go j h (yes l) q = omega (arith, g j l)
       go j h (no l) q = omega (arith, f j (omega arith) h)
 
   -- the look-up gives a record, or the number of records
-  pub record-at-le : recordAt t k ≤ length t / 10
+  pub record-at-le : recordAt t k ≤ recordCount t
   unfolding recordAt
   record-at-le = omega (arith, position-le (λ p. eqb k (keyOf p)) (placesOf t) 0, length-places t)

@@ -6,11 +6,16 @@ ghost use lib.Dec.{eqb};
 ghost use lib.ListN.{length};
 ghost use lib.Ieee.{binary32, ofBits};
 ghost use Rattle.base.specs.Lists.{little, bytes};
-ghost use Rattle.rules.specs.Survey.{entry, cornerRecord, placeOf, wet};
+ghost use Rattle.rules.specs.Survey.{recordSize, recordCount, entry, cornerRecord, placeOf, wet};
 ghost use Rattle.rules.specs.OpenAtBox.{isOuter};
 ghost use Rattle.rules.specs.Outputs.{inRange, rising};
 ghost use Rattle.records.specs.Keys.{keyOf, placesOf};
 use rules::Corner;
+
+// The size of a corner record in bytes, and the longest corner table.
+pub const SIZE: usize = 12;
+
+pub const LIMIT: usize = 58464;
 
 // A byte as a wider number, with its bound.
 fn wide(x: u8) -> u16
@@ -56,10 +61,10 @@ pub fn float_of(bits: u32) -> f32
 
 // Corner record `n`, taken up with its place and sounding together.
 pub fn corner_at(corners: &[u8], n: usize) -> Corner
-    requires { ⌜ 10 * n + 10 ≤ length (now corners) ⌝ }
+    requires { ⌜ recordSize * n + recordSize ≤ length (now corners) ⌝ }
     ensures { λ r. ⌜ r ≡ cornerRecord (now (corners .entry)) n ⌝ }
 {
-    let at = 10 * n;
+    let at = SIZE * n;
     let x = read16(corners, at);
     let y = read16(corners, at + 2);
     let z = read16(corners, at + 4);
@@ -104,7 +109,7 @@ pub fn key_of(c: Corner) -> u64
 
 // The key of corner record `n`.
 pub fn key_at(corners: &[u8], n: usize) -> u64
-    requires { ⌜ 10 * n + 10 ≤ length (now corners) ⌝ }
+    requires { ⌜ recordSize * n + recordSize ≤ length (now corners) ⌝ }
     ensures { λ r. ⌜ r ≡ keyOf (placeOf (cornerRecord (now (corners .entry)) n)) ⌝ }
 {
     key_of(corner_at(corners, n))
@@ -112,7 +117,7 @@ pub fn key_at(corners: &[u8], n: usize) -> u64
 
 // Check 5: the records rise strictly.
 pub fn corners_rise(corners: &[u8], count: usize) -> bool
-    requires { ⌜ count ≡ length (now corners) / 10 ⌝ }
+    requires { ⌜ count ≡ recordCount (now corners) ⌝ }
     ensures { λ r. ⌜ r ≡ rising (placesOf (now (corners .entry))) ⌝ }
 {
     let mut i: usize = 0;

@@ -69,8 +69,13 @@ wetAtOnly ps = at ps one minusOne
 abbrev pub cellTable : List ℕ → List ℕ
 cellTable es = collect (bytesOf 4) es
 
+-- a corner record: a place, the bits of its sounding, its day
+abbrev pub resounded : Place → ℕ → ℕ → List ℕ
+resounded p v day = bytesOf 2 (p .x) ++ bytesOf 2 (p .y) ++ bytesOf 2 (p .z) ++ bytesOf 4 v ++ bytesOf 2 day
+
+-- all of day 0
 abbrev pub cornerTable : List Place → Soundings → List ℕ
-cornerTable ps f = collect (λ p. bytesOf 2 (p .x) ++ bytesOf 2 (p .y) ++ bytesOf 2 (p .z) ++ bytesOf 4 (f p)) ps
+cornerTable ps f = collect (λ p. resounded p (f p) 0) ps
 
 -- the places with coordinates of a rising list, by z, then y, then x
 abbrev pub grid : List ℕ → List Place

@@ -9,7 +9,7 @@ use lib.IntN.{pos}
 use lib.Ieee.{Float, fin, le}
 use Rattle.base.specs.Lists.{any, all, first, collect, count}
 use Rattle.base.specs.Grid.{Place, axisOf, same}
-use Rattle.rules.specs.Survey.{Cell, entries, cellsOf, cellCorners, cornersOf, placeOf, wetAt, Survey}
+use Rattle.rules.specs.Survey.{recordSize, Cell, entries, cellsOf, cellCorners, cornersOf, placeOf, wetAt, Survey}
 use Rattle.rules.specs.Edges.{CellEdge, edge, isEdge, odd, pointEdges, numberOf, carrier, Spot, spotOn, OnEdge}
 use Rattle.rules.specs.Steps.{saddleCut, Triangle, allTriangles}
 use Rattle.rules.specs.WhichEnd.{wetEnd}
@@ -19,6 +19,10 @@ use Rattle.rules.specs.declared.Edge.the-variants.{Even, Crossing}
 use Rattle.rules.specs.declared.Answer.{Answer}
 use Rattle.rules.specs.declared.Answer.the-variants.{Refused, Found}
 use Rattle.rules.specs.declared.Drawn.{Drawn}
+
+-- the longest corner table, in bytes: 4,872 records
+abbrev pub cornerLimit : ℕ
+cornerLimit = 58464
 
 -- empty, not whole records of n bytes, or over the limit
 abbrev pub badTable : ℕ → ℕ → List ℕ → Bool
@@ -68,7 +72,7 @@ surveyChecks tc tk =
     let corners = cornersOf tk in
     let places = map placeOf corners in
     (1, badTable 4 8196 tc) ∷
-    (2, badTable 10 48720 tk) ∷
+    (2, badTable recordSize cornerLimit tk) ∷
     (3, not (entriesRight 0 0 (entries tc))) ∷
     (4, any (λ c. c .split && eqb (c .level) 0) cells) ∷
     (5, not (rising places)) ∷

@@ -53,16 +53,26 @@ unfoldable pub cellsOf : List ℕ → List Cell
 unfolding cellsFrom
 cellsOf t = cellsFrom (entries t) (cell origin 10 false ∷ [])
 
--- record k, 10 bytes: x, y, z, then the sounding
+-- The size of a corner record in bytes (12 by request 6 of document 02), how many a table has, and the bytes of record k.
+abbrev pub recordSize : ℕ
+recordSize = 12
+
+abbrev pub recordCount : List ℕ → ℕ
+recordCount t = length t / recordSize
+
+abbrev pub recordBytes : List ℕ → ℕ → List ℕ
+recordBytes t k = bytes t (recordSize * k) recordSize
+
+-- record k: x, y, z, then the sounding; the day that follows is read in Resounding.antt
 unfoldable pub cornerRecord : List ℕ → ℕ → Corner
 unfolding ofBits
 cornerRecord t k =
-    let r = bytes t (10 * k) 10 in
+    let r = recordBytes t k in
     record { x = little (bytes r 0 2); y = little (bytes r 2 2); z = little (bytes r 4 2); sounding = ofBits binary32 (little (bytes r 6 4)) }
 
 unfoldable pub cornersOf : List ℕ → List Corner
 unfolding cornerRecord
-cornersOf t = map (cornerRecord t) (count 0 (length t / 10))
+cornersOf t = map (cornerRecord t) (count 0 (recordCount t))
 
 abbrev pub placeOf : Corner → Place
 placeOf c = record { x = c .x; y = c .y; z = c .z }

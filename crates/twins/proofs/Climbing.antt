@@ -8,12 +8,11 @@ use mathlib.Core.Option.{none, some}
 use native.Mathlib.Nat.{div-eq-of-lt}
 use native.Mathlib.Omega.{arith}
 use lib.Dec.{T, eqb}
-use lib.ListN.{length}
 use borrow.Author.Tests.{eqb-true}
 use Rattle.base.specs.Grid.{Place, Axis, X, Y, Z, along, put, move, back}
 use Rattle.base.proofs.Tests.{below}
 use Rattle.base.proofs.Places.{along-put, put-put, put-along}
-use Rattle.rules.specs.Survey.{cornerRecord, placeOf, Survey}
+use Rattle.rules.specs.Survey.{recordCount, cornerRecord, placeOf, Survey}
 use Rattle.rules.specs.Edges.{edge, isEdge, odd, carrier, pointOf}
 use Rattle.rules.specs.Steps.{isUpper, above, other, twin, numberElse}
 use Rattle.records.specs.Keys.{keyOf, placesOf, Short}
@@ -51,7 +50,7 @@ module _ (a : Axis) (p : Place) (l key : ℕ) (k : key ≡ keyOf p) where
   above-upper r h e = back-key r h e ∙ ap (λ b. keyOf (cond b (back a (2 ^ l) p) p)) (sym h)
 
 -- the test of the code
-pub upper-read : (t : List ℕ) (k l v size : ℕ) (a : Axis) → k < length t / 10 → v ≡ along a (placeOf (cornerRecord t k)) → size ≡ 2 ^ l →
+pub upper-read : (t : List ℕ) (k l v size : ℕ) (a : Axis) → k < recordCount t → v ≡ along a (placeOf (cornerRecord t k)) → size ≡ 2 ^ l →
     eqb (v / size % 2) 1 ≡ isUpper a (placeAt (placesOf t) k) l
 upper-read t k l v size a h e f =
     (λ i. eqb (e i / f i % 2) 1) ∙ ap (λ q. isUpper a q l) (sym (get-place t k h))
@@ -61,10 +60,10 @@ short-back X d p h = let x = h .x-fits in record { x-fits = omega arith; y-fits 
 short-back Y d p h = let y = h .y-fits in record { x-fits = h .x-fits; y-fits = omega arith }
 short-back Z d p h = record { x-fits = h .x-fits; y-fits = h .y-fits }
 
-place-short : (t : List ℕ) → Bytes t → (k : ℕ) → k < length t / 10 → Short (placeAt (placesOf t) k)
+place-short : (t : List ℕ) → Bytes t → (k : ℕ) → k < recordCount t → Short (placeAt (placesOf t) k)
 place-short t b k h = subst Short (sym (get-place t k h)) (record-short t b k h)
 
-pub above-short : (t : List ℕ) → Bytes t → (a : Axis) (k l : ℕ) → k < length t / 10 → Short (above a (placeAt (placesOf t) k) l)
+pub above-short : (t : List ℕ) → Bytes t → (a : Axis) (k l : ℕ) → k < recordCount t → Short (above a (placeAt (placesOf t) k) l)
 above-short t b a k l h = go (isUpper a (placeAt (placesOf t) k) l)
   where
     go : (u : Bool) → Short (cond u (back a (2 ^ l) (placeAt (placesOf t) k)) (placeAt (placesOf t) k))

@@ -1,5 +1,5 @@
 -- The climb to a point's twin, turn by turn, of a survey that is accepted at a clearance.
-use Prim.Native.Nat.{ℕ, zero, suc, _+_, _/_, _^_, _≤_, _<_}
+use Prim.Native.Nat.{ℕ, zero, suc, _+_, _^_, _≤_, _<_}
 use mathlib.Core.Path.{_≡_, refl, sym, ap, _∙_, subst}
 use mathlib.Core.Bool.{Bool, true, false, cond}
 use mathlib.Core.List.{List}
@@ -7,10 +7,9 @@ use mathlib.Core.Option.{none}
 use native.Mathlib.Omega.{arith}
 use lib.Dec.{T}
 use lib.Ieee.{Float}
-use lib.ListN.{length}
 use Rattle.base.specs.Grid.{Place, Axis, along, move, back}
 use Rattle.base.proofs.Tests.{→true, true→, or-left, or-right}
-use Rattle.rules.specs.Survey.{cellsOf, cornersOf, wetAt, Survey}
+use Rattle.rules.specs.Survey.{recordCount, cellsOf, cornersOf, wetAt, Survey}
 use Rattle.rules.specs.Edges.{edge, isEdge, divided, odd, pointOf}
 use Rattle.rules.specs.Steps.{isUpper, above, other, twin, numberElse}
 use Rattle.rules.specs.Outputs.{accepted, surveyOf}
@@ -93,7 +92,7 @@ module _ (tc tk : List ℕ) (clearance : Float) (ok : accepted tc tk clearance �
         half-place = λ g. u .place ∙ ap (λ b. cond b (back a (2 ^ l) (at k)) (move a (2 ^ l) (at k))) (sym h);
       }
 
-    pub risen-none : (w v : ℕ) → Sought tc tk a (above a (placeAt (placesOf tk) k) l) (suc l) (length tk / 10) → Risen tc tk a k l (length tk / 10) w v
+    pub risen-none : (w v : ℕ) → Sought tc tk a (above a (placeAt (placesOf tk) k) l) (suc l) (recordCount tk) → Risen tc tk a k l (recordCount tk) w v
     risen-none w v f = record {
       sought = f;
       upper = λ g. absurd (omega arith);
@@ -113,11 +112,11 @@ module _ (tc tk : List ℕ) (clearance : Float) (ok : accepted tc tk clearance �
 
   module _ (a : Axis) (k₀ l₀ k l start end half v : ℕ) (c : Climbed tc tk clearance a k₀ l₀ k l) (f : Risen tc tk a k l start end half) where
     -- no cell has an edge above
-    pub climb-ends : length tk / 10 ≤ start → v ≡ numberElse (surveyOf tc tk clearance) v (twin (surveyOf tc tk clearance) 10 a (placeAt (placesOf tk) k₀) l₀)
+    pub climb-ends : recordCount tk ≤ start → v ≡ numberElse (surveyOf tc tk clearance) v (twin (surveyOf tc tk clearance) 10 a (placeAt (placesOf tk) k₀) l₀)
     unfolding surveyOf
     climb-ends h = sym (ap (numberElse s v) (sym (c .same-twin) ∙ twin-none s (c .left) a (at k) l (f .sought .none h)) ∙ else-none s v)
 
-    module _ (h : start < length tk / 10) where
+    module _ (h : start < recordCount tk) where
       above-edge : T (isEdge (cellsOf tc) a (above a (at k) l) (suc l))
       above-edge = f .sought .found h .0
 

@@ -5,6 +5,7 @@ ghost use Prim.Native.Nat.{_+_, _-_, _*_, _/_, _%_, _^_, _≤_, _<_};
 ghost use lib.Dec.{T};
 ghost use lib.ListN.{length};
 ghost use Rattle.base.specs.Grid.{axisOf};
+ghost use Rattle.rules.specs.Survey.{recordCount};
 ghost use Rattle.rules.specs.Steps.{isUpper, twin, numberElse, twinOf};
 ghost use Rattle.rules.specs.Outputs.{accepted, surveyOf};
 ghost use Rattle.records.specs.Keys.{placesOf};
@@ -14,7 +15,7 @@ ghost use Rattle.twins.specs.Risen.{Risen};
 
 // The edge is the upper half of the edge above it.
 fn is_upper(corners: &[u8], axis: u32, k: usize, level: u8) -> bool
-    requires { ⌜ (k < length (now corners) / 10) × (level ≤ 10) ⌝ }
+    requires { ⌜ (k < recordCount (now corners)) × (level ≤ 10) ⌝ }
     ensures { λ r. ⌜ r ≡ isUpper (axisOf axis) (placeAt (placesOf (now (corners .entry))) k) level ⌝ }
 {
     let size = cells::size_of(level);
@@ -64,7 +65,7 @@ fn edge_above(
     }
     if edges::table::highest(slots, 4872 * (axis as usize) + k) < level + 1 {
         return Above {
-            start: corners.len() / 10,
+            start: corners.len() / records::SIZE,
             end: end,
             other: end,
         };
@@ -94,7 +95,7 @@ fn climb(
         (twin (surveyOf (now (cells .entry)) (now (corners .entry)) clearance) 10 (axisOf (slot / 4872))
         (placeAt (placesOf (now (corners .entry))) (slot % 4872)) (lowestAt (now (slots .entry)) slot)) ⌝ }
 {
-    let count = corners.len() / 10;
+    let count = corners.len() / records::SIZE;
     let axis = (slot / 4872) as u32;
     let mut k = slot % 4872;
     let mut end = edges::table::far(slots, slot) as usize;

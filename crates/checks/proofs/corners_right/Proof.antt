@@ -2,10 +2,10 @@
 use native.Mathlib.Omega.{arith}
 use mathlib.Core.Path.{_∙_, sym, ap, refl}
 use borrow.Author.Tests.{not-true, not-false}
-use lib.ListN.{length, replicate}
+use lib.ListN.{replicate}
 use lib.Dec.{ltb}
-use Prim.Native.Nat.{_/_}
 use Rattle.base.specs.Lists.{all}
+use Rattle.rules.specs.Survey.{recordCount}
 use Rattle.checks.specs.Marks.{marked}
 use Rattle.checks.proofs.Marking.{table-is}
 use Rattle.checks.proofs.Corners.{one-missing, none-missing-made}
@@ -27,7 +27,7 @@ returns c =
     let m = c .before .before in
     let s = m .before .before .before .before .before .before in
     let tk = s .args .corners .now in
-    let n = length tk / 10 in
+    let n = recordCount tk in
     let table = table-is tk (s .args .laid .now) (s .args .octants .now) _ (s .pre .1 .1 .1 .1) (omega arith) in
     one-missing (s .args .cells .now) tk (s .args .laid .now) (s .pre .0) (s .pre .1 .0) (m .before .before .before .shared-slice-known3 .given) n refl
     (sym (m .mark-all .ensures .0 ∙ ap (all (λ k. ltb k n)) table) ∙ not-true (m .mark-all .result) (c .if1 .taken))
@@ -43,7 +43,7 @@ returns-2 c =
     let m = c .before .before .before .before in
     let s = m .before .before .before .before .before .before in
     let tk = s .args .corners .now in
-    let n = length tk / 10 in
+    let n = recordCount tk in
     let table = table-is tk (s .args .laid .now) (s .args .octants .now) _ (s .pre .1 .1 .1 .1) (omega arith) in
     let there = not-false (m .mark-all .result) (c .before .before .if1 .left) in
     c .all-marked .ensures ∙

@@ -3,6 +3,8 @@ use native.Mathlib.Omega.{arith}
 use mathlib.Core.Path.{_∙_, sym, ap, refl}
 use mathlib.Core.Bool.{not}
 use borrow.Author.Tests.{not-false}
+use Rattle.rules.specs.Outputs.{cornerLimit}
+use Rattle.rules.specs.Survey.{recordSize}
 use Rattle.octree.proofs.Accepted.{checked}
 use Rattle.checks.proofs.Passed.{octants-of}
 use Rattle.checks.proofs.Order.{
@@ -114,7 +116,7 @@ fill-requires c κs =
     let s = p1 .before .before .before .before .before .before in
     let a = s .args in
     let most = table-fits 4 8196 (a .cells .now) (sym (p1 .before .bad-table .ensures) ∙ p1 .if1 .left) in
-    let few = table-fits 10 48720 (a .corners .now) (sym (p2 .before .bad-table2 .ensures) ∙ p2 .if2 .left) in
+    let few = table-fits recordSize cornerLimit (a .corners .now) (sym (p2 .before .bad-table2 .ensures) ∙ p2 .if2 .left) in
     let laid = p4 .before .before .before .lay-out .ensures .1 (p4 .if4 .left) in
     let rises = sym (p5 .before .corners-rise .ensures) ∙ not-false (p5 .before .corners-rise .result) (p5 .if5 .left) in (
       rises,
@@ -136,7 +138,7 @@ corners-right-requires c κs =
     let p1 = p2 .before .before in
     let a = p1 .before .before .before .before .before .before .args in
     let most = table-fits 4 8196 (a .cells .now) (sym (p1 .before .bad-table .ensures) ∙ p1 .if1 .left) in
-    let few = table-fits 10 48720 (a .corners .now) (sym (p2 .before .bad-table2 .ensures) ∙ p2 .if2 .left) in
+    let few = table-fits recordSize cornerLimit (a .corners .now) (sym (p2 .before .bad-table2 .ensures) ∙ p2 .if2 .left) in
     let right = sym (p3 .before .entries-right .ensures) ∙ not-false (p3 .before .entries-right .result) (p3 .if3 .left) in
     let rises = sym (p5 .before .corners-rise .ensures) ∙ not-false (p5 .before .corners-rise .result) (p5 .if5 .left) in (
       right,

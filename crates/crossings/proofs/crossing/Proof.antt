@@ -3,6 +3,7 @@ use Prim.Native.Nat.{_/_, _%_, _≤_}
 use mathlib.Core.Path.{_≡_, _∙_, subst}
 use native.Mathlib.Omega.{arith}
 use lib.ListN.{length}
+use Rattle.rules.specs.Survey.{recordCount}
 use Rattle.cells.specs.Laid.{cellAt, levelIn}
 use Rattle.octants.specs.Octants.{Octant}
 use Rattle.crossings.proofs.Leaves.{cells-small, corners-small}
@@ -51,7 +52,7 @@ module _ (c : tie.After-octant-record2) where
         (c .before .end-of .ensures .0) (c .octant-record2 .ensures);
   }
 
-  marked : length (s .args .corners .now) / 10 ≤ length (s .args .wets .now)
+  marked : recordCount (s .args .corners .now) ≤ length (s .args .wets .now)
   marked = omega (arith, corners-small _ _ _ (s .pre .0 .fit), s .pre .0 .marks .size)
 
 shared-slice-read-if1 : tie.Need-shared-slice-read-if1

@@ -1,10 +1,10 @@
 -- `edges::edge_record` meets its contract: the record at the place, and the levels there, say whether some cell has the edge.
-use Prim.Native.Nat.{_+_, _*_, _/_, _<_}
+use Prim.Native.Nat.{_+_, _*_, _<_}
 use mathlib.Core.Path.{_≡_}
 use mathlib.Core.Logic.{inl, inr}
 use native.Mathlib.Omega.{arith}
-use lib.ListN.{length}
 use Rattle.base.specs.Grid.{Place, axisOf}
+use Rattle.rules.specs.Survey.{recordCount}
 use Rattle.records.specs.Keys.{keyOf, placesOf, Short}
 use Rattle.edges.specs.Tables.{placeAt}
 use Rattle.edges.proofs.Seeking.{nowhere, at-place, sought-miss, sought-hit}
@@ -36,7 +36,7 @@ module _ (c : tie.Else1) where
   abbrev s : tie.Start
   s = start (c .before)
 
-  inside : c .before .find .result < length (start (c .before) .args .corners .now) / 10
+  inside : c .before .find .result < recordCount (start (c .before) .args .corners .now)
   inside = omega arith
 
   slot-inside : 4872 * start (c .before) .args .axis + c .before .find .result < 14616

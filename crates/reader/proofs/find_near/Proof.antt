@@ -4,7 +4,7 @@
 -- the lifetime's name.
 -- Assumes nothing.
 use mathlib.Core.Path.{_≡_, refl, sym, ap, _∙_}
-use Prim.Native.Nat.{ℕ, _<_, _^_, _/_}
+use Prim.Native.Nat.{ℕ, _<_, _^_}
 use mathlib.Core.Bool.{true}
 use mathlib.Core.List.{List, [], _∷_}
 use denote.Plain.{uint-makes, uint-vals, uint-tells, uint-lawful}
@@ -40,6 +40,7 @@ use denote.Triple.Table.{entered, cited}
 use denote.Triple.Walked.{says, needs, Stays, stay-none, stay-none-slice, walkOf, goes-none, goes-none-slice, Walks, ends-at, walked, walk-meets}
 use denote.Exit.{yes}
 use denote.Triple.Clauses.{ensured, lasts}
+use Rattle.rules.specs.Survey.{recordCount}
 use Rattle.reader.specs.Ordered.{Ordered}
 use Rattle.rules.specs.Outputs.{rising}
 use Rattle.records.specs.Keys.{recordAt, placesOf}
@@ -98,7 +99,7 @@ module _ {M : Type 1} (𝓤 : URA M) (H : Heap 𝓤) (A : Atoms 𝓤) (W : Given
 
   -- what `laid` says of its result
   abbrev Laid : Reader → Type 0
-  Laid r = (r .bytes ≡ s) × (r .count ≡ length (now s) / 10)
+  Laid r = (r .bytes ≡ s) × (r .count ≡ recordCount (now s))
 
   -- the call of `new`: what it is passed, what it asks, and what is known of its result
   abbrev to-new : New 𝓤 H A mem run .Ghost
@@ -161,7 +162,7 @@ module _ {M : Type 1} (𝓤 : URA M) (H : Heap 𝓤) (A : Atoms 𝓤) (W : Given
         peeks ! (B (κ, tt)) (Is (B (κ, tt))) (shows 𝓤 H A (B (κ, tt))) r (u ∷ []) (λ is.
         land ! (from ! (stop !)) (init ! 3 refl (LL.lawful (T.the-type αᵉ) (T′.the-laws αᵉ) 𝓤 H A W .typed r _ is .0)) $
         use2 W (raw (Next 𝓤 H A mem run .pre (to-next r u))) (goes-next fits held r u (
-          e .1 ∙ sym (ap (λ (x : RefT (List ℕ)). length (now x) / 10) (e .0)),
+          e .1 ∙ sym (ap (λ (x : RefT (List ℕ)). recordCount (now x)) (e .0)),
           ap (λ (x : RefT (List ℕ)). rising (placesOf (now x))) (e .0) ∙ up,
         )) $
         calls-at ! fm (Next 𝓤 H A mem run) known-next (to-next r u) (and-then ! (load ! (from ! (stop !)) (look ! 2 refl)) (and-then ! (load ! (from !

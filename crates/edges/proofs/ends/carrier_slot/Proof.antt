@@ -6,7 +6,7 @@ use native.Mathlib.Omega.{arith}
 use lib.ListN.{length}
 use Rattle.base.specs.Grid.{axisOf}
 use Rattle.rules.specs.Edges.{carrier}
-use Rattle.rules.specs.Outputs.{surveyOf}
+use Rattle.rules.specs.Outputs.{cornerLimit, surveyOf}
 use Rattle.records.specs.Keys.{placesOf}
 use Rattle.edges.specs.Tables.{placeAt, lowestAt, OddEdge}
 use Rattle.edges.proofs.Descent.{lower-half, down, slot-found}
@@ -27,7 +27,7 @@ abbrev μ-loop : tie.MeasureT-loop
 abbrev start : tie.At-loop Inv-loop μ-loop → tie.Start Inv-loop μ-loop
 start l = l .before .before .before .before .before
 
-few : (s : tie.Start Inv-loop μ-loop) → length (s .args .corners .now) ≤ 48720
+few : (s : tie.Start Inv-loop μ-loop) → length (s .args .corners .now) ≤ cornerLimit
 few s = corners (s .args .cells .now) (s .args .corners .now) (s .args .clearance) (s .pre .0) .few
 
 loop-holds : tie.Need-loop-holds Inv-loop μ-loop

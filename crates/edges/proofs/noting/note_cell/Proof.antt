@@ -6,7 +6,7 @@ use mathlib.Core.List.{_++_}
 use native.Mathlib.Omega.{arith}
 use lib.ListN.{length, getD, drop}
 use Rattle.base.specs.Grid.{origin}
-use Rattle.rules.specs.Survey.{cell, cellsOf}
+use Rattle.rules.specs.Survey.{recordCount, cell, cellsOf}
 use Rattle.octree.proofs.Accepted.{checked}
 use Rattle.cells.specs.Laid.{cellAt}
 use Rattle.checks.proofs.Passed.{few-cells, few-corners, places-rise}
@@ -51,7 +51,7 @@ module _ (c : tie.In-loop Inv-loop μ-loop) where
     s .pre .1 .1 .0 .0,
   )
 
-  corners-few : length (at-start c .args .corners .now) / 10 ≤ 4872
+  corners-few : recordCount (at-start c .args .corners .now) ≤ 4872
   corners-few = few-corners (s .args .cells .now) (s .args .corners .now) (checked (s .args .cells .now) (s .args .corners .now) (s .pre .0))
 
   shallow : cellAt (at-start c .args .cells .now) (at-start c .args .n) .level ≤ 10

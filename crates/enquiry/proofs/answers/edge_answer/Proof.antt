@@ -1,14 +1,14 @@
 -- `enquiry::answers::edge_answer` meets its contract: by cases: no cell has the edge, it is even, it is odd.
-use Prim.Native.Nat.{_<_, _/_}
+use Prim.Native.Nat.{_<_}
 use mathlib.Core.Path.{_≡_, sym, ap, _∙_, subst}
 use mathlib.Core.Bool.{Bool, true, false, not}
 use native.Mathlib.Omega.{arith}
 use lib.Dec.{T, eqb}
-use lib.ListN.{length, getD}
+use lib.ListN.{getD}
 use borrow.Author.Tests.{eq-eqb, ne-eqb}
 use Rattle.base.specs.Grid.{Place, axisOf}
 use Rattle.base.proofs.Tests.{→true}
-use Rattle.rules.specs.Survey.{cellsOf, cornersOf, wetAt}
+use Rattle.rules.specs.Survey.{recordCount, cellsOf, cornersOf, wetAt}
 use Rattle.rules.specs.Edges.{isEdge, odd, spotOn}
 use Rattle.rules.specs.Outputs.{surveyOf}
 use Rattle.places.specs.Places.{asSpot}
@@ -30,7 +30,7 @@ module _ (c : tie.Else1) where
   abbrev f : tie.After-edge-record
   f = c .before
 
-  inside : c .before .edge-record .result < length (start (c .before) .args .corners .now) / 10
+  inside : c .before .edge-record .result < recordCount (start (c .before) .args .corners .now)
   inside = omega arith
 
   here : (p : Place) → Short p → start (c .before) .args .key ≡ keyOf p →

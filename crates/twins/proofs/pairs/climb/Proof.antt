@@ -5,11 +5,11 @@ use mathlib.Core.Path.{_≡_, refl, sym, ap, _∙_, subst}
 use mathlib.Core.Bool.{Bool, true, false, not}
 use native.Mathlib.Omega.{arith}
 use lib.Dec.{eqb}
-use lib.ListN.{length, getD}
+use lib.ListN.{getD}
 use borrow.Author.Needs.{needs}
 use borrow.Author.Tests.{eq-eqb, ne-eqb}
 use Rattle.base.specs.Grid.{axisOf}
-use Rattle.rules.specs.Survey.{cornersOf, wetAt}
+use Rattle.rules.specs.Survey.{recordCount, cornersOf, wetAt}
 use Rattle.rules.specs.Edges.{edge, odd, pointOf}
 use Rattle.rules.specs.Outputs.{surveyOf}
 use Rattle.records.specs.Keys.{placesOf}
@@ -24,7 +24,7 @@ use Rattle.twins.proofs.pairs.climb.Tie as tie
 abbrev Inv-loop : tie.InvT-loop
 Inv-loop cells corners clearance wets slots slot v count axis k₀ end₀ level₀ k end level =
     Climbed cells corners clearance (axisOf (slot / 4872)) (slot % 4872) (lowestAt slots slot) k level × UpperEnd corners (axisOf (slot / 4872)) k level end ×
-    (count ≡ length corners / 10) × (axis ≡ slot / 4872)
+    (count ≡ recordCount corners) × (axis ≡ slot / 4872)
 
 abbrev μ-loop : tie.MeasureT-loop
 μ-loop cells corners clearance wets slots slot v count axis k₀ end₀ level₀ k end level = 10 - level
@@ -37,7 +37,7 @@ entry e = start (e .before)
 
 -- an edge above is there
 abbrev There : tie.After-edge-above Inv-loop μ-loop → Type 0
-There e = e .edge-above .result .start < length (entry e .args .corners .now) / 10
+There e = e .edge-above .result .start < recordCount (entry e .args .corners .now)
 
 -- the marks at its ends differ
 abbrev differ : tie.After-edge-above Inv-loop μ-loop → Bool
