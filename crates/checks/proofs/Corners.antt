@@ -20,45 +20,12 @@ use Rattle.octree.proofs.Records.{cell-count}
 use Rattle.records.specs.Keys.{keyOf, placesOf, recordAt, Short}
 use Rattle.records.proofs.Keys.{Bytes, nowhere, get-place, length-places}
 use Rattle.records.proofs.Search.{keyAt, keys-rise, is-at}
-use Rattle.records.proofs.Found.{record-at-place, listed-found, found-listed}
+use Rattle.records.proofs.Listed.{listed-is, record-is}
 use Rattle.cells.specs.Laid.{octantKey, cellAt, Entered, Laid, keyIn, levelIn}
 use Rattle.cells.proofs.Octants.{octant-key-is}
 use Rattle.checks.specs.Marks.{cornerNumbers, allNumbers, marked}
 use Rattle.base.proofs.Below.{all-count, any-count, all-collect, any-collect, all-map, any-map}
 use Rattle.checks.proofs.Marking.{mark-at}
-
-module _ (t : List ℕ) (b : Bytes t) where
-  -- a place is listed where the look-up finds a record
-  pub listed-is : (p : Place) → Short p → any (same p) (placesOf t) ≡ ltb (recordAt t (keyOf p)) (recordCount t)
-  listed-is p s =
-      tests-equal (any (same p) (placesOf t)) (ltb (recordAt t (keyOf p)) (recordCount t))
-      (λ l. lt→ltb (recordAt t (keyOf p)) (recordCount t) (listed-found t b p s l))
-      (λ f. found-listed t b p s (ltb→lt (recordAt t (keyOf p)) (recordCount t) f))
-
-  module _ (up : rising (placesOf t) ≡ true) where
-    -- the look-up by the key of a record finds that record
-    own-record : (k : ℕ) → k < recordCount t → k ≡ recordAt t (keyAt t k)
-    own-record k h = is-at t (keyAt t k) k h refl (λ j l. keys-rise t b up j k l h)
-
-    -- record k is at a place where the look-up finds record k
-    pub record-is : (k : ℕ) (p : Place) → Short p → k < recordCount t → same (getD (placesOf t) k (placeOf nowhere)) p ≡ eqb k (recordAt t (keyOf p))
-    record-is k p s h = rw (get-place t k h) (tests-equal (same here p) (eqb k (recordAt t (keyOf p))) forth back)
-      where
-        here : Place
-        here = placeOf (cornerRecord t k)
-
-        forth : T (same here p) → T (eqb k (recordAt t (keyOf p)))
-        forth q = eq→eqb k (recordAt t (keyOf p)) (own-record k h ∙ ap (λ z. recordAt t (keyOf z)) (same→ here p q))
-
-        back : T (eqb k (recordAt t (keyOf p))) → T (same here p)
-        back q =
-            let e = eqb→eq k (recordAt t (keyOf p)) q in
-            let l = found-listed t b p s (omega arith) in
-            let r = position-of (same p) (placeOf nowhere) (placesOf t) 0 l in
-            let j : r .0 ≡ k = omega (arith, r .1, record-at-place t b p s) in
-            let z : p ≡ here = same→ p (getD (placesOf t) (r .0) (placeOf nowhere)) (r .3) ∙ ap (λ m. getD (placesOf t) m (placeOf nowhere)) j
-            ∙ get-place t k h in
-            subst (λ w. T (same w p)) z (same-refl p)
 
 -- corner i of the cell of record n
 abbrev pub corner : List ℕ → ℕ → ℕ → Place

@@ -9,71 +9,62 @@ use lib.Ieee.{Float}
 use borrow.Author.Tests.{ltb-false}
 use Rattle.base.specs.Lists.{any}
 use Rattle.rules.specs.Survey.{recordSize, entries, cellsOf, cornersOf}
-use Rattle.rules.specs.Outputs.{cornerLimit, badTable, entriesRight, rising, cornersRight, inRange, firstOf, surveyChecks, surveyRefusal, checks}
+use Rattle.rules.specs.Outputs.{cornerLimit, badTable, entriesRight, rising, cornersRight, inRange, firstOf, tableChecks, surveyChecks, surveyRefusal, checks}
 use Rattle.octree.proofs.Accepted.{refused-before, refused-last, refused-never}
 use Rattle.records.specs.Keys.{placesOf}
 use Rattle.cells.specs.Laid.{tooDeep}
 use Rattle.checks.proofs.Tables.{beyond}
 
--- what a table that passes check 1 or 2 has
-pub table-fits : (n limit : ℕ) (t : List ℕ) → badTable n limit t ≡ false → length t ≤ limit
-table-fits n limit t e = go (eqb (length t) 0) (not (eqb (length t % n) 0)) e
-  where
-    go : (a b : Bool) → a || (b || ltb limit (length t)) ≡ false → length t ≤ limit
-    go true b q = absurd (true≢false q)
-    go false true q = absurd (true≢false q)
-    go false false q = ltb-false limit (length t) q
-
 -- the checks before a check find nothing, and it applies
 module _ (tc tk : List ℕ) where
   pub refused-one : badTable 4 8196 tc ≡ true → 1 ≡ surveyRefusal tc tk
-  unfolding surveyRefusal surveyChecks
+  unfolding surveyRefusal surveyChecks tableChecks
   refused-one a = rw a
 
   module _ (a : badTable 4 8196 tc ≡ false) where
     pub refused-two : badTable recordSize cornerLimit tk ≡ true → 2 ≡ surveyRefusal tc tk
-    unfolding surveyRefusal surveyChecks
+    unfolding surveyRefusal surveyChecks tableChecks
     refused-two b = rw (a, b)
 
     module _ (b : badTable recordSize cornerLimit tk ≡ false) where
       pub refused-three : not (entriesRight 0 0 (entries tc)) ≡ true → 3 ≡ surveyRefusal tc tk
-      unfolding surveyRefusal surveyChecks
+      unfolding surveyRefusal surveyChecks tableChecks
       refused-three c = rw (a, b, c)
 
       module _ (c : not (entriesRight 0 0 (entries tc)) ≡ false) where
         pub refused-four : any tooDeep (cellsOf tc) ≡ true → 4 ≡ surveyRefusal tc tk
-        unfolding surveyRefusal surveyChecks
+        unfolding surveyRefusal surveyChecks tableChecks
         refused-four d = rw (a, b, c, d)
 
         module _ (d : any tooDeep (cellsOf tc) ≡ false) where
           pub refused-five : not (rising (placesOf tk)) ≡ true → 5 ≡ surveyRefusal tc tk
-          unfolding surveyRefusal surveyChecks
+          unfolding surveyRefusal surveyChecks tableChecks
           refused-five e = rw (a, b, c, d, e)
 
           module _ (e : not (rising (placesOf tk)) ≡ false) where
             pub refused-six : not (cornersRight (cellsOf tc) (placesOf tk)) ≡ true → 6 ≡ surveyRefusal tc tk
-            unfolding surveyRefusal surveyChecks
+            unfolding surveyRefusal surveyChecks tableChecks
             refused-six f = rw (a, b, c, d, e, f)
 
             module _ (f : not (cornersRight (cellsOf tc) (placesOf tk)) ≡ false) where
               pub refused-seven : any beyond (cornersOf tk) ≡ true → 7 ≡ surveyRefusal tc tk
-              unfolding surveyRefusal surveyChecks
+              unfolding surveyRefusal surveyChecks tableChecks
               refused-seven g = rw (a, b, c, d, e, f, g)
 
               pub none-refused : any beyond (cornersOf tk) ≡ false → 0 ≡ surveyRefusal tc tk
-              unfolding surveyRefusal surveyChecks
+              unfolding surveyRefusal surveyChecks tableChecks
               none-refused g = rw (a, b, c, d, e, f, g)
 
 -- the clearance is checked after the survey
 module _ (tc tk : List ℕ) (clearance : Float) (n : ℕ) (n-is : n ≡ surveyRefusal tc tk) where
   pub survey-refused : (n ≡ 0 → ⊥) → n ≡ firstOf (checks tc tk clearance)
   unfolding checks surveyRefusal
-  survey-refused = refused-before (surveyChecks tc tk) (unfold surveyChecks in tt) 8 (not (inRange clearance)) n n-is
+  survey-refused = refused-before (surveyChecks tc tk) (unfold surveyChecks tableChecks in tt) 8 (not (inRange clearance)) n n-is
 
   pub clearance-refused : n ≡ 0 → not (inRange clearance) ≡ true → 8 ≡ firstOf (checks tc tk clearance)
   unfolding checks surveyRefusal
-  clearance-refused = refused-last (surveyChecks tc tk) (unfold surveyChecks in tt) 8 (not (inRange clearance)) n n-is
+  clearance-refused = refused-last (surveyChecks tc tk) (unfold surveyChecks tableChecks in tt) 8 (not (inRange clearance)) n n-is
 
   pub nothing-refused : n ≡ 0 → not (inRange clearance) ≡ false → 0 ≡ firstOf (checks tc tk clearance)
   unfolding checks surveyRefusal
-  nothing-refused = refused-never (surveyChecks tc tk) (unfold surveyChecks in tt) 8 (not (inRange clearance)) n n-is
+  nothing-refused = refused-never (surveyChecks tc tk) (unfold surveyChecks tableChecks in tt) 8 (not (inRange clearance)) n n-is

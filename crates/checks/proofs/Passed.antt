@@ -21,13 +21,12 @@ use Rattle.octree.proofs.Records.{cell-count}
 use Rattle.octree.proofs.Cells.{→cell}
 use Rattle.octree.proofs.Tree.{octree-of}
 use Rattle.octree.proofs.Aligned.{cell-in-box}
-use Rattle.octree.proofs.Accepted.{Checked}
+use Rattle.octree.proofs.Accepted.{table-fits, Checked}
 use Rattle.records.specs.Keys.{keyOf, placesOf, recordAt, Short}
 use Rattle.records.proofs.Keys.{Bytes}
 use Rattle.records.proofs.Found.{record-at-place, listed-found}
 use Rattle.cells.specs.Laid.{cellAt, Laid}
 use Rattle.octants.specs.Octants.{LookedUp, Octants}
-use Rattle.checks.proofs.Order.{table-fits}
 use Rattle.checks.proofs.Corners.{corner, corner-key}
 
 module _ (tc tk : List ℕ) (c : Checked tc tk) where
@@ -36,10 +35,10 @@ module _ (tc tk : List ℕ) (c : Checked tc tk) where
 
   -- the tables are short
   pub few-cells : length tc / 4 ≤ 2049
-  few-cells = omega (arith, table-fits 4 8196 tc (c .cell-table))
+  few-cells = omega (arith, table-fits 4 8196 tc (c .cell-table) .1)
 
   pub few-corners : recordCount tk ≤ 4872
-  few-corners = omega (arith, table-fits recordSize cornerLimit tk (c .corner-table))
+  few-corners = omega (arith, table-fits recordSize cornerLimit tk (c .corner-table) .1)
 
   module _ (n : ℕ) (h : n < length tc / 4) where
     cell-in : In (cellAt tc n) (cellsOf tc)

@@ -12,7 +12,7 @@ use Rattle.base.specs.Lists.{any}
 use Rattle.base.proofs.Tests.{→true, true→, false→}
 use Rattle.rules.specs.Survey.{entries, cellsOf}
 use Rattle.rules.specs.OpenAtBox.{openAtBox}
-use Rattle.rules.specs.Outputs.{cornerLimit, entriesRight, rising, firstOf, surveyChecks, surveyRefusal, checks, accepted, drawingChecks, drawable}
+use Rattle.rules.specs.Outputs.{cornerLimit, entriesRight, rising, firstOf, tableChecks, surveyChecks, surveyRefusal, checks, accepted, drawingChecks, drawable}
 use Rattle.octree.proofs.Accepted.{refused-before, refused-last, refused-never, Checked, checked, accepted→, drawable→}
 use Rattle.records.specs.Keys.{placesOf}
 use Rattle.cells.specs.Laid.{tooDeep}
@@ -24,15 +24,15 @@ use Rattle.edges.proofs.Surveyed.{rises-true, corners-few, cells-few}
 module _ (tc tk : List ℕ) (clearance : Float) (n : ℕ) (n-is : n ≡ firstOf (checks tc tk clearance)) where
   pub refused-earlier : (n ≡ 0 → ⊥) → n ≡ firstOf (drawingChecks tc tk clearance)
   unfolding drawingChecks
-  refused-earlier = refused-before (checks tc tk clearance) (unfold checks surveyChecks in tt) 12 (openAtBox tk clearance) n n-is
+  refused-earlier = refused-before (checks tc tk clearance) (unfold checks surveyChecks tableChecks in tt) 12 (openAtBox tk clearance) n n-is
 
   pub refused-open : n ≡ 0 → openAtBox tk clearance ≡ true → 12 ≡ firstOf (drawingChecks tc tk clearance)
   unfolding drawingChecks
-  refused-open = refused-last (checks tc tk clearance) (unfold checks surveyChecks in tt) 12 (openAtBox tk clearance) n n-is
+  refused-open = refused-last (checks tc tk clearance) (unfold checks surveyChecks tableChecks in tt) 12 (openAtBox tk clearance) n n-is
 
   pub refused-not : n ≡ 0 → openAtBox tk clearance ≡ false → 0 ≡ firstOf (drawingChecks tc tk clearance)
   unfolding drawingChecks
-  refused-not = refused-never (checks tc tk clearance) (unfold checks surveyChecks in tt) 12 (openAtBox tk clearance) n n-is
+  refused-not = refused-never (checks tc tk clearance) (unfold checks surveyChecks tableChecks in tt) 12 (openAtBox tk clearance) n n-is
 
   pub accepts : n ≡ 0 → accepted tc tk clearance ≡ true
   unfolding accepted

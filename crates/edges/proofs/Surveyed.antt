@@ -26,15 +26,10 @@ use Rattle.octree.proofs.Tree.{octree-of}
 use Rattle.octree.proofs.Records.{cell-count}
 use Rattle.octree.proofs.Aligned.{corner-place, edge-level}
 use Rattle.octree.proofs.Edges.{upper-end}
-use Rattle.octree.proofs.Accepted.{Checked, checked, checked-lawful}
+use Rattle.octree.proofs.Accepted.{table-fits, Checked, checked, checked-lawful}
 use Rattle.edges.specs.Tables.{edgesOf, placeAt}
 use Rattle.edges.specs.Searching.{Corners}
 use Rattle.edges.proofs.Notes.{edges-none}
-
-within-limit : (a b : Bool) (limit n : ℕ) → (a || (b || ltb limit n)) ≡ false → n ≤ limit
-within-limit true b limit n e = absurd (subst T e tt)
-within-limit false true limit n e = absurd (subst T e tt)
-within-limit false false limit n e = ltb-false limit n e
 
 -- a place in the box has a small key
 pub key-small : (p : Place) → ((a : Axis) → along a p ≤ 1024) → keyOf p ≤ 4398113620992
@@ -49,10 +44,10 @@ module _ (tc tk : List ℕ) (ok : surveyRefusal tc tk ≡ 0) where
   rises-true = true→ (rising (placesOf tk)) (passes .rises)
 
   pub corners-few : length tk ≤ cornerLimit
-  corners-few = within-limit (eqb (length tk) 0) (not (eqb (length tk % recordSize) 0)) cornerLimit (length tk) (passes .corner-table)
+  corners-few = table-fits recordSize cornerLimit tk (passes .corner-table) .1
 
   pub cells-few : length tc ≤ 8196
-  cells-few = within-limit (eqb (length tc) 0) (not (eqb (length tc % 4) 0)) 8196 (length tc) (passes .cell-table)
+  cells-few = table-fits 4 8196 tc (passes .cell-table) .1
 
   tree : Octree (cellsOf tc)
   tree = octree-of tc (passes .entries-right) (passes .units-whole)

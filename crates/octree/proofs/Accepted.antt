@@ -1,17 +1,18 @@
 -- The first check that applies; what each check gives where it finds nothing to refuse, of accepted and of drawable surveys; and an accepted survey is lawful.
-use Prim.Native.Nat.{ℕ, _^_}
+use Prim.Native.Nat.{ℕ, _%_, _^_, _≤_}
 use mathlib.Core.Path.{_≡_, refl, sym, ap, _∙_, subst}
 use mathlib.Core.Logic.{_⊎_, inl, inr}
-use mathlib.Core.Bool.{Bool, true, false, not, _&&_, cond}
+use mathlib.Core.Bool.{Bool, true, false, not, _&&_, _||_, cond, true≢false}
 use mathlib.Core.List.{List, [], _∷_, _++_, map}
-use lib.Dec.{T, T-not, eqb, eqb→eq}
+use lib.Dec.{T, T-not, eqb, eqb→eq, ltb}
+use lib.ListN.{length}
 use lib.Ieee.{Float}
-use borrow.Author.Tests.{eq-eqb, ne-eqb}
+use borrow.Author.Tests.{eq-eqb, ne-eqb, ltb-false}
 use Rattle.base.specs.Lists.{any, all}
 use Rattle.base.specs.Grid.{Place, same, octants}
 use Rattle.rules.specs.Survey.{recordSize, Cell, cell, size, entries, cellsOf, cellCorners, cornersOf, placeOf}
 use Rattle.rules.specs.OpenAtBox.{openAtBox}
-use Rattle.rules.specs.Outputs.{cornerLimit, badTable, entriesRight, rising, cornersRight, inRange, firstOf, surveyChecks, surveyRefusal, checks, accepted}
+use Rattle.rules.specs.Outputs.{cornerLimit, badTable, entriesRight, rising, cornersRight, inRange, firstOf, tableChecks, surveyChecks, surveyRefusal, checks, accepted}
 use Rattle.rules.specs.Outputs.{drawingChecks, drawable, surveyOf}
 use Rattle.rules.specs.declared.Corner.{Corner}
 use Rattle.base.proofs.Tests.{and→, either, not-both, eq→eqb, false→, →true, →false}
@@ -88,7 +89,16 @@ module _ (ts : List (ℕ × Bool)) (none-zero : T (numbered ts)) (k : ℕ) (b : 
 
 -- ---- what each check gives
 
--- what a survey that checks 1 to 7 pass has
+-- a table that passes check 1 or 2 is of whole records, and not longer than the limit
+pub table-fits : (n limit : ℕ) (t : List ℕ) → badTable n limit t ≡ false → (length t % n ≡ 0) × (length t ≤ limit)
+table-fits n limit t e = go (eqb (length t) 0) (eqb (length t % n) 0) refl e
+  where
+    go : (a b : Bool) → eqb (length t % n) 0 ≡ b → a || (not b || ltb limit (length t)) ≡ false → (length t % n ≡ 0) × (length t ≤ limit)
+    go true b d q = absurd (true≢false q)
+    go false false d q = absurd (true≢false q)
+    go false true d q = (eqb→eq (length t % n) 0 (→true d), ltb-false limit (length t) q)
+
+-- what tables that checks 1 to 6 pass have
 pub record Checked (tc tk : List ℕ) : Type 0 where
   pub cell-table : badTable 4 8196 tc ≡ false
   pub corner-table : badTable recordSize cornerLimit tk ≡ false
@@ -96,7 +106,6 @@ pub record Checked (tc tk : List ℕ) : Type 0 where
   pub units-whole : T (not (any (λ c. c .split && eqb (c .level) 0) (cellsOf tc)))
   pub rises : T (rising (map placeOf (cornersOf tk)))
   pub corners-right : T (cornersRight (cellsOf tc) (map placeOf (cornersOf tk)))
-  pub soundings : (k : Corner) → In k (cornersOf tk) → T (inRange (k .sounding))
 
 passed : (b : Bool) → not b ≡ false → T b
 passed true e = tt
@@ -109,10 +118,10 @@ none-of f xs e x i = go (either (f x))
     go (inl t) = t
     go (inr g) = absurd (subst T e (in→any (λ y. not (f y)) xs x i (→false g)))
 
-pub checked : (tc tk : List ℕ) → surveyRefusal tc tk ≡ 0 → Checked tc tk
-unfolding surveyRefusal surveyChecks
-checked tc tk h =
-    let passes : (t : ℕ × Bool) → In t (surveyChecks tc tk) → t .1 ≡ false = none-applies (surveyChecks tc tk) tt h in
+pub tables-checked : (tc tk : List ℕ) → firstOf (tableChecks tc tk) ≡ 0 → Checked tc tk
+unfolding tableChecks
+tables-checked tc tk h =
+    let passes : (t : ℕ × Bool) → In t (tableChecks tc tk) → t .1 ≡ false = none-applies (tableChecks tc tk) tt h in
     record {
       cell-table = passes (1, badTable 4 8196 tc) (inl refl);
       corner-table = passes (2, badTable recordSize cornerLimit tk) (inr (inl refl));
@@ -121,16 +130,33 @@ checked tc tk h =
       rises = passed (rising (map placeOf (cornersOf tk))) (passes (5, not (rising (map placeOf (cornersOf tk)))) (inr (inr (inr (inr (inl refl))))));
       corners-right = passed (cornersRight (cellsOf tc) (map placeOf (cornersOf tk)))
           (passes (6, not (cornersRight (cellsOf tc) (map placeOf (cornersOf tk)))) (inr (inr (inr (inr (inr (inl refl)))))));
-      soundings = none-of (λ (k : Corner). inRange (k .sounding)) (cornersOf tk)
-          (passes (7, any (λ k. not (inRange (k .sounding))) (cornersOf tk)) (inr (inr (inr (inr (inr (inr (inl refl))))))));
     }
+
+-- where a check of the survey by itself gives 0, checks 1 to 6 pass the tables, and every sounding is in range
+module _ (tc tk : List ℕ) (h : surveyRefusal tc tk ≡ 0) where
+  abbrev seven : ℕ × Bool
+  seven = (7, any (λ k. not (inRange (k .sounding))) (cornersOf tk))
+
+  none-refused : (firstOf (tableChecks tc tk) ≡ 0) × (firstOf (seven ∷ []) ≡ 0)
+  unfolding surveyRefusal surveyChecks
+  none-refused = first-none (tableChecks tc tk) (seven ∷ []) (unfold tableChecks in tt) h
+
+  pub tables-pass : firstOf (tableChecks tc tk) ≡ 0
+  tables-pass = none-refused .0
+
+  pub checked : Checked tc tk
+  checked = tables-checked tc tk tables-pass
+
+  pub soundings-checked : (k : Corner) → In k (cornersOf tk) → T (inRange (k .sounding))
+  soundings-checked =
+      none-of (λ (k : Corner). inRange (k .sounding)) (cornersOf tk) (none-applies (seven ∷ []) tt (none-refused .1) seven (inl refl))
 
 -- accepted: no refusal of the survey by itself, and the clearance in range
 pub accepted→ : (tc tk : List ℕ) (clearance : Float) → T (accepted tc tk clearance) → (surveyRefusal tc tk ≡ 0) × T (inRange clearance)
 unfolding accepted checks surveyRefusal
 accepted→ tc tk clearance t =
     let eight : ℕ × Bool = (8, not (inRange clearance)) in
-    let none = first-none (surveyChecks tc tk) (eight ∷ []) (unfold surveyChecks in tt) (eqb→eq (firstOf (checks tc tk clearance)) 0 t) in
+    let none = first-none (surveyChecks tc tk) (eight ∷ []) (unfold surveyChecks tableChecks in tt) (eqb→eq (firstOf (checks tc tk clearance)) 0 t) in
     (none .0, passed (inRange clearance) (none-applies (eight ∷ []) tt (none .1) eight (inl refl)))
 
 -- drawable: accepted, and not open at the box
@@ -138,7 +164,7 @@ pub drawable→ : (tc tk : List ℕ) (clearance : Float) → T (drawable tc tk c
 unfolding drawable drawingChecks accepted
 drawable→ tc tk clearance t =
     let twelve : ℕ × Bool = (12, openAtBox tk clearance) in
-    let none = first-none (checks tc tk clearance) (twelve ∷ []) (unfold checks surveyChecks in tt) (eqb→eq (firstOf (drawingChecks tc tk clearance)) 0 t) in
+    let none = first-none (checks tc tk clearance) (twelve ∷ []) (unfold checks surveyChecks tableChecks in tt) (eqb→eq (firstOf (drawingChecks tc tk clearance)) 0 t) in
     (eq→eqb (firstOf (checks tc tk clearance)) 0 (none .0), none-applies (twelve ∷ []) tt (none .1) twelve (inl refl))
 
 -- ---- the laws of an accepted survey

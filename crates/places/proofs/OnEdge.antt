@@ -18,7 +18,7 @@ use Rattle.rules.specs.Closing.{Carries, isOdd}
 use Rattle.rules.specs.AwashPlaces.{dryCorner, wetCorner, PlaceByEnds, PlacesByEnds}
 use Rattle.rules.specs.declared.Corner.{Corner}
 use Rattle.octree.specs.Lawful.{Lawful}
-use Rattle.octree.proofs.Accepted.{checked, accepted→, lawful}
+use Rattle.octree.proofs.Accepted.{soundings-checked, accepted→, lawful}
 use Rattle.octree.proofs.Corners.{at-listed}
 use Rattle.octree.proofs.Edges.{lower-end, upper-end, undivided→, crossed→}
 use Rattle.octree.proofs.Aligned.{edge-in-box}
@@ -46,7 +46,7 @@ module _ (tc tk : List ℕ) (clearance : Float) (ok : T (accepted tc tk clearanc
   sounded : (q : Place) → T (any (same q) (surveyOf tc tk clearance .places)) → Sounding (cornerAt (cornersOf tk) q .sounding)
   unfolding surveyOf
   sounded q t =
-      at-listed (λ c. Sounding (c .sounding)) (cornersOf tk) q (sounding-in tk (checked tc tk (accepted→ tc tk clearance ok .0) .soundings)) t
+      at-listed (λ c. Sounding (c .sounding)) (cornersOf tk) q (sounding-in tk (soundings-checked tc tk (accepted→ tc tk clearance ok .0))) t
 
   odd-placed : (e : CellEdge) → T (isEdge (surveyOf tc tk clearance .cells) (e .axis) (e .low) (e .level)) → T (isOdd (surveyOf tc tk clearance) e)
       → PlaceByEnds clearance e (dryCorner (cornersOf tk) clearance e) (wetCorner (cornersOf tk) clearance e) (spotOn (cornersOf tk) clearance e)

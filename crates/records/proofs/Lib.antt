@@ -3,3 +3,4 @@ pub mod Patterns
 pub mod Keys
 pub mod Search
 pub mod Found
+pub mod Listed

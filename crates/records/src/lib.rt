@@ -6,8 +6,9 @@ ghost use lib.Dec.{eqb};
 ghost use lib.ListN.{length};
 ghost use lib.Ieee.{binary32, ofBits};
 ghost use Rattle.base.specs.Lists.{little, bytes};
-ghost use Rattle.rules.specs.Survey.{recordSize, recordCount, entry, cornerRecord, placeOf, wet};
+ghost use Rattle.rules.specs.Survey.{recordSize, recordCount, entry, cornerRecord, placeOf, wet, recordBytes};
 ghost use Rattle.rules.specs.OpenAtBox.{isOuter};
+ghost use Rattle.rules.specs.Resounding.{dayIn};
 ghost use Rattle.rules.specs.Outputs.{inRange, rising};
 ghost use Rattle.records.specs.Keys.{keyOf, placesOf};
 use rules::Corner;
@@ -70,6 +71,14 @@ pub fn corner_at(corners: &[u8], n: usize) -> Corner
     let z = read16(corners, at + 4);
     let sounding = float_of(read32(corners, at + 6));
     Corner { x, y, z, sounding }
+}
+
+// The day of corner record `n`: 16 bits after the sounding.
+pub fn day_at(corners: &[u8], n: usize) -> u16
+    requires { ⌜ recordSize * n + recordSize ≤ length (now corners) ⌝ }
+    ensures { λ r. ⌜ r ≡ dayIn (recordBytes (now (corners .entry)) n) ⌝ }
+{
+    read16(corners, SIZE * n + 10)
 }
 
 // A corner is wet if its sounding is greater than the clearance: one that is just awash is dry.

@@ -9,3 +9,4 @@ pub mod Closing
 pub mod StepByAnswers
 pub mod AwashPlaces
 pub mod Water
+pub mod Resounding

@@ -64,20 +64,23 @@ abbrev pub firstOf : List (ℕ × Bool) → ℕ
 firstOf [] = 0
 firstOf (t ∷ ts) = let r = firstOf ts in cond (t .1) (t .0) r
 
--- the checks of the survey by itself: of a cell table and a corner table
-unfoldable pub surveyChecks : List ℕ → List ℕ → List (ℕ × Bool)
-unfolding entriesRight cellsOf cornersOf rising cornersRight inRange
-surveyChecks tc tk =
+-- the checks of a cell table and a corner table, but for the soundings
+unfoldable pub tableChecks : List ℕ → List ℕ → List (ℕ × Bool)
+unfolding entriesRight cellsOf cornersOf rising cornersRight
+tableChecks tc tk =
     let cells = cellsOf tc in
-    let corners = cornersOf tk in
-    let places = map placeOf corners in
+    let places = map placeOf (cornersOf tk) in
     (1, badTable 4 8196 tc) ∷
     (2, badTable recordSize cornerLimit tk) ∷
     (3, not (entriesRight 0 0 (entries tc))) ∷
     (4, any (λ c. c .split && eqb (c .level) 0) cells) ∷
     (5, not (rising places)) ∷
-    (6, not (cornersRight cells places)) ∷
-    (7, any (λ k. not (inRange (k .sounding))) corners) ∷ []
+    (6, not (cornersRight cells places)) ∷ []
+
+-- the checks of the survey by itself
+unfoldable pub surveyChecks : List ℕ → List ℕ → List (ℕ × Bool)
+unfolding tableChecks cornersOf inRange
+surveyChecks tc tk = tableChecks tc tk ++ (7, any (λ k. not (inRange (k .sounding))) (cornersOf tk)) ∷ []
 
 -- a check of the survey by itself gives 0 or 1 to 7
 unfoldable pub surveyRefusal : List ℕ → List ℕ → ℕ

@@ -22,7 +22,7 @@ use Rattle.base.proofs.Lists.{In, in-get}
 use Rattle.base.proofs.Tests.{→and, eq→eqb, true→, false→, →true}
 use Rattle.rules.specs.Edges.{pointEdges}
 use Rattle.rules.specs.Steps.{Triangle, allTriangles}
-use Rattle.rules.specs.Outputs.{numbers, firstOf, surveyChecks, checks, accepted, drawingChecks, drawable, surveyOf, pointFloats, sliceChecks, draw}
+use Rattle.rules.specs.Outputs.{numbers, firstOf, tableChecks, surveyChecks, checks, accepted, drawingChecks, drawable, surveyOf, pointFloats, sliceChecks, draw}
 use Rattle.rules.specs.Water.{sixfoldOf, sixfold, beyondBox, volumeChecks, volume}
 use Rattle.rules.specs.Water.{AnyReference, SameAnswer, AllTakenDown, NumbersBelow, FewTriangles, NothingLost}
 use Rattle.octree.proofs.Accepted.{first-none}
@@ -68,9 +68,9 @@ module _ (tc tk : List ℕ) (clearance : Float) (p q : Place) (ps : List Float) 
   can-draw : number q ≡ 0 → T (drawable tc tk clearance)
   unfolding volumeChecks drawable
   can-draw given =
-      let none = first-none (volumeChecks tc tk clearance q) (sliceChecks tc tk clearance ps ts) (unfold drawingChecks checks surveyChecks in tt) given .0 in
+      let none = first-none (volumeChecks tc tk clearance q) (sliceChecks tc tk clearance ps ts) (unfold drawingChecks checks surveyChecks tableChecks in tt) given .0 in
       eq→eqb (firstOf (drawingChecks tc tk clearance)) 0
-      (first-none (drawingChecks tc tk clearance) ((13, beyondBox q) ∷ []) (unfold drawingChecks checks surveyChecks in tt) none .0)
+      (first-none (drawingChecks tc tk clearance) ((13, beyondBox q) ∷ []) (unfold drawingChecks checks surveyChecks tableChecks in tt) none .0)
 
   same-volume : cond (eqb (number p) 0) (total tc tk clearance p ps ts) (pos 0) ≡ cond (eqb (number q) 0) (total tc tk clearance q ps ts) (pos 0)
   same-volume =

@@ -11,7 +11,7 @@ use lib.Ieee.{Float}
 use borrow.Author.Tests.{eq-eqb, ne-eqb}
 use Rattle.base.specs.Grid.{Place}
 use Rattle.rules.specs.Steps.{allTriangles}
-use Rattle.rules.specs.Outputs.{firstOf, surveyChecks, checks, drawingChecks, drawable, surveyOf, pointFloats, sliceChecks, Drawing, draw}
+use Rattle.rules.specs.Outputs.{firstOf, tableChecks, surveyChecks, checks, drawingChecks, drawable, surveyOf, pointFloats, sliceChecks, Drawing, draw}
 use Rattle.rules.specs.Water.{sixfold, beyondBox, volumeChecks, Reckoning, volume}
 use Rattle.rules.specs.declared.Drawn.{Drawn}
 use Rattle.rules.specs.declared.Water.{Water}
@@ -25,15 +25,15 @@ use Rattle.volume.specs.Reckons.{Reckons}
 module _ (tc tk : List ℕ) (clearance : Float) (reference : Place) (n : ℕ) (n-is : n ≡ firstOf (drawingChecks tc tk clearance)) where
   pub refused-earlier : (n ≡ 0 → ⊥) → n ≡ firstOf (volumeChecks tc tk clearance reference)
   unfolding volumeChecks
-  refused-earlier = refused-before (drawingChecks tc tk clearance) (unfold drawingChecks checks surveyChecks in tt) 13 (beyondBox reference) n n-is
+  refused-earlier = refused-before (drawingChecks tc tk clearance) (unfold drawingChecks checks surveyChecks tableChecks in tt) 13 (beyondBox reference) n n-is
 
   pub refused-beyond : n ≡ 0 → beyondBox reference ≡ true → 13 ≡ firstOf (volumeChecks tc tk clearance reference)
   unfolding volumeChecks
-  refused-beyond = refused-last (drawingChecks tc tk clearance) (unfold drawingChecks checks surveyChecks in tt) 13 (beyondBox reference) n n-is
+  refused-beyond = refused-last (drawingChecks tc tk clearance) (unfold drawingChecks checks surveyChecks tableChecks in tt) 13 (beyondBox reference) n n-is
 
   pub refused-not : n ≡ 0 → beyondBox reference ≡ false → 0 ≡ firstOf (volumeChecks tc tk clearance reference)
   unfolding volumeChecks
-  refused-not = refused-never (drawingChecks tc tk clearance) (unfold drawingChecks checks surveyChecks in tt) 13 (beyondBox reference) n n-is
+  refused-not = refused-never (drawingChecks tc tk clearance) (unfold drawingChecks checks surveyChecks tableChecks in tt) 13 (beyondBox reference) n n-is
 
 -- ---- what the call gives
 
@@ -71,14 +71,14 @@ module _ (tc tk : List ℕ) (clearance : Float) (reference : Place) (ps : List F
       ≡ cond (eqb (firstOf (volumeChecks tc tk clearance reference)) 0) (firstOf (sliceChecks tc tk clearance ps ts))
       (firstOf (volumeChecks tc tk clearance reference))
   in-order =
-      first-append (volumeChecks tc tk clearance reference) (sliceChecks tc tk clearance ps ts) (unfold volumeChecks drawingChecks checks surveyChecks in tt)
+      first-append (volumeChecks tc tk clearance reference) (sliceChecks tc tk clearance ps ts) (unfold volumeChecks drawingChecks checks surveyChecks tableChecks in tt)
 
   -- ---- no check before the slices' applies: as for a drawing
 
   module _ (n : ℕ) (is : n ≡ firstOf (volumeChecks tc tk clearance reference)) (zero : n ≡ 0) where
     both : (firstOf (drawingChecks tc tk clearance) ≡ 0) × (firstOf ((13, beyondBox reference) ∷ []) ≡ 0)
     both =
-        first-none (drawingChecks tc tk clearance) ((13, beyondBox reference) ∷ []) (unfold drawingChecks checks surveyChecks in tt)
+        first-none (drawingChecks tc tk clearance) ((13, beyondBox reference) ∷ []) (unfold drawingChecks checks surveyChecks tableChecks in tt)
         (unfold volumeChecks in sym is ∙ zero)
 
     pub can-draw : drawable tc tk clearance ≡ true
@@ -97,11 +97,11 @@ module _ (tc tk : List ℕ) (clearance : Float) (reference : Place) (ps : List F
     as-drawn =
         let slices = firstOf (sliceChecks tc tk clearance ps ts) in
         in-order ∙ ap (λ (b : Bool). cond b slices first) (eq-eqb first 0 (sym is ∙ zero))
-        ∙ sym (first-append (drawingChecks tc tk clearance) (sliceChecks tc tk clearance ps ts) (unfold drawingChecks checks surveyChecks in tt)
+        ∙ sym (first-append (drawingChecks tc tk clearance) (sliceChecks tc tk clearance ps ts) (unfold drawingChecks checks surveyChecks tableChecks in tt)
         ∙ ap (λ (b : Bool). cond b slices (firstOf (drawingChecks tc tk clearance))) (eq-eqb (firstOf (drawingChecks tc tk clearance)) 0 (both .0)))
 
     never : eqb (draw tc tk clearance ps ts .result .number) 13 ≡ false
-    unfolding draw drawingChecks checks surveyChecks
+    unfolding draw drawingChecks checks surveyChecks tableChecks
     never = first-unlike 13 (drawingChecks tc tk clearance ++ sliceChecks tc tk clearance ps ts) tt tt
 
     within : volume tc tk clearance reference ps ts ≡ given (draw tc tk clearance ps ts) (draw tc tk clearance ps ts .result .number) false
@@ -164,7 +164,7 @@ module _ (tc tk : List ℕ) (clearance : Float) (reference : Place) (ps : List F
             ≡ cond (eqb (firstOf (drawingChecks tc tk clearance)) 0) (cond (beyondBox reference) 13 0) (firstOf (drawingChecks tc tk clearance))
         parts =
             unfold volumeChecks in
-            first-append (drawingChecks tc tk clearance) ((13, beyondBox reference) ∷ []) (unfold drawingChecks checks surveyChecks in tt)
+            first-append (drawingChecks tc tk clearance) ((13, beyondBox reference) ∷ []) (unfold drawingChecks checks surveyChecks tableChecks in tt)
 
     pub turned-away : Reckons (lent tc tk clearance ps ts) reference (record { number = n; points = 0; triangles = 0; sixfold = pos 0 }) ps ts
     turned-away = record {

@@ -1,0 +1,5 @@
+pub mod Records
+pub mod InForce
+pub mod Working
+pub mod Stray
+pub mod Calls
