@@ -1,13 +1,13 @@
 -- What a call of the amended survey gives, by the first check that applies: the step from the checks of the tables to the plain call with the table as amended.
 -- Assumes nothing.
-use Prim.Native.Nat.{ℕ, _*_, _%_, _<_}
+use Prim.Native.Nat.{ℕ, _*_, _≤_, _<_}
 use mathlib.Core.Path.{_≡_, refl, sym, ap, _∙_}
 use mathlib.Core.Logic.{inl, inr}
 use mathlib.Core.Bool.{Bool, true, false, not, _||_, cond}
 use mathlib.Core.List.{List, [], _∷_}
 use native.Mathlib.Omega.{arith}
 use lib.Dec.{T, eqb, ltb, eqb→eq}
-use lib.ListN.{length}
+use lib.ListN.{length, take, length-take}
 use borrow.Author.Tests.{ne-eqb}
 use Rattle.base.proofs.Tests.{→true}
 use Rattle.rules.specs.Survey.{recordSize, recordCount, recordBytes, cellsOf}
@@ -32,6 +32,17 @@ whole-records tc tk pass = omega (arith, table-fits recordSize cornerLimit tk (t
 pub tables-same : (tc tk ta : List ℕ) → firstOf (tableChecks tc tk) ≡ 0 → tableChecks tc (amended tk ta) ≡ tableChecks tc tk
 unfolding tableChecks
 tables-same tc tk ta pass = rw (amended-places tk ta, amended-length tk ta ∙ sym (whole-records tc tk pass))
+
+-- a table that is the corner table as amended passes them too
+pub amended-pass : (tc tk ta t : List ℕ) → firstOf (tableChecks tc tk) ≡ 0 → t ≡ amended tk ta → firstOf (tableChecks tc t) ≡ 0
+amended-pass tc tk ta t pass e = ap (λ (u : List ℕ). firstOf (tableChecks tc u)) e ∙ ap firstOf (tables-same tc tk ta pass) ∙ pass
+
+-- and is as long as the corner table, so that the table whose front it is has room for it
+pub amended-fits : (tc tk ta table : List ℕ) → firstOf (tableChecks tc tk) ≡ 0 → take (length tk) table ≡ amended tk ta
+    → (length tk ≤ length table) × (length tk ≡ length (take (length tk) table))
+amended-fits tc tk ta table pass e =
+    let as-long : length tk ≡ length (take (length tk) table) = whole-records tc tk pass ∙ sym (amended-length tk ta) ∙ sym (ap length e) in
+    (omega (arith, as-long, length-take (length tk) table), as-long)
 
 -- where no amendment takes a record's place, the corner table is as it was
 pub amended-kept : (tc tk ta : List ℕ) → firstOf (tableChecks tc tk) ≡ 0 → ((k : ℕ) → k < recordCount tk → inForceAt tk ta k ≡ recordBytes tk k)

@@ -1,6 +1,6 @@
 -- The checks in their order: the first that applies gives its number.
 use Prim.Native.Nat.{ℕ, _%_, _≤_}
-use mathlib.Core.Path.{_≡_}
+use mathlib.Core.Path.{_≡_, refl, sym}
 use mathlib.Core.Bool.{Bool, true, false, not, _||_, true≢false}
 use mathlib.Core.List.{List}
 use lib.Dec.{eqb, ltb}
@@ -17,43 +17,49 @@ use Rattle.checks.proofs.Tables.{beyond}
 
 -- the checks before a check find nothing, and it applies
 module _ (tc tk : List ℕ) where
-  pub refused-one : badTable 4 8196 tc ≡ true → 1 ≡ surveyRefusal tc tk
-  unfolding surveyRefusal surveyChecks tableChecks
+  pub refused-one : badTable 4 8196 tc ≡ true → 1 ≡ firstOf (tableChecks tc tk)
+  unfolding tableChecks
   refused-one a = rw a
 
   module _ (a : badTable 4 8196 tc ≡ false) where
-    pub refused-two : badTable recordSize cornerLimit tk ≡ true → 2 ≡ surveyRefusal tc tk
-    unfolding surveyRefusal surveyChecks tableChecks
+    pub refused-two : badTable recordSize cornerLimit tk ≡ true → 2 ≡ firstOf (tableChecks tc tk)
+    unfolding tableChecks
     refused-two b = rw (a, b)
 
     module _ (b : badTable recordSize cornerLimit tk ≡ false) where
-      pub refused-three : not (entriesRight 0 0 (entries tc)) ≡ true → 3 ≡ surveyRefusal tc tk
-      unfolding surveyRefusal surveyChecks tableChecks
+      pub refused-three : not (entriesRight 0 0 (entries tc)) ≡ true → 3 ≡ firstOf (tableChecks tc tk)
+      unfolding tableChecks
       refused-three c = rw (a, b, c)
 
       module _ (c : not (entriesRight 0 0 (entries tc)) ≡ false) where
-        pub refused-four : any tooDeep (cellsOf tc) ≡ true → 4 ≡ surveyRefusal tc tk
-        unfolding surveyRefusal surveyChecks tableChecks
+        pub refused-four : any tooDeep (cellsOf tc) ≡ true → 4 ≡ firstOf (tableChecks tc tk)
+        unfolding tableChecks
         refused-four d = rw (a, b, c, d)
 
         module _ (d : any tooDeep (cellsOf tc) ≡ false) where
-          pub refused-five : not (rising (placesOf tk)) ≡ true → 5 ≡ surveyRefusal tc tk
-          unfolding surveyRefusal surveyChecks tableChecks
+          pub refused-five : not (rising (placesOf tk)) ≡ true → 5 ≡ firstOf (tableChecks tc tk)
+          unfolding tableChecks
           refused-five e = rw (a, b, c, d, e)
 
           module _ (e : not (rising (placesOf tk)) ≡ false) where
-            pub refused-six : not (cornersRight (cellsOf tc) (placesOf tk)) ≡ true → 6 ≡ surveyRefusal tc tk
-            unfolding surveyRefusal surveyChecks tableChecks
+            pub refused-six : not (cornersRight (cellsOf tc) (placesOf tk)) ≡ true → 6 ≡ firstOf (tableChecks tc tk)
+            unfolding tableChecks
             refused-six f = rw (a, b, c, d, e, f)
 
             module _ (f : not (cornersRight (cellsOf tc) (placesOf tk)) ≡ false) where
-              pub refused-seven : any beyond (cornersOf tk) ≡ true → 7 ≡ surveyRefusal tc tk
-              unfolding surveyRefusal surveyChecks tableChecks
-              refused-seven g = rw (a, b, c, d, e, f, g)
+              pub none-refused : 0 ≡ firstOf (tableChecks tc tk)
+              unfolding tableChecks
+              none-refused = rw (a, b, c, d, e, f)
 
-              pub none-refused : any beyond (cornersOf tk) ≡ false → 0 ≡ surveyRefusal tc tk
-              unfolding surveyRefusal surveyChecks tableChecks
-              none-refused g = rw (a, b, c, d, e, f, g)
+-- the soundings are checked after the tables
+module _ (tc tk : List ℕ) (passed : firstOf (tableChecks tc tk) ≡ 0) where
+  pub refused-seven : any beyond (cornersOf tk) ≡ true → 7 ≡ surveyRefusal tc tk
+  unfolding surveyRefusal surveyChecks
+  refused-seven = refused-last (tableChecks tc tk) (unfold tableChecks in tt) 7 (any beyond (cornersOf tk)) 0 (sym passed) refl
+
+  pub all-in-range : any beyond (cornersOf tk) ≡ false → 0 ≡ surveyRefusal tc tk
+  unfolding surveyRefusal surveyChecks
+  all-in-range = refused-never (tableChecks tc tk) (unfold tableChecks in tt) 7 (any beyond (cornersOf tk)) 0 (sym passed) refl
 
 -- the clearance is checked after the survey
 module _ (tc tk : List ℕ) (clearance : Float) (n : ℕ) (n-is : n ≡ surveyRefusal tc tk) where

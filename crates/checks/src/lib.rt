@@ -1,4 +1,5 @@
-// The refusals of a survey: document 01, "Outputs and refusals", checks 1 to 8 in their order. Uses records, cells and octants.
+// The refusals of a survey: document 01, "Outputs and refusals", checks 1 to 8 in their order, with 14 and 15 of document 02 after 6. Uses records, amendments, cells
+// and octants.
 ghost use mathlib.Core.Path.{_≡_};
 ghost use mathlib.Core.Bool.{true, not};
 ghost use Prim.Native.Nat.{_+_, _*_, _≤_, _<_, _/_};
@@ -6,11 +7,13 @@ ghost use lib.ListN.{length, getD, set, take};
 ghost use lib.Dec.{ltb, eqb};
 ghost use Rattle.base.specs.Lists.{all, any, count as upTo};
 ghost use Rattle.rules.specs.Survey.{recordCount, entries, cellsOf, cornersOf};
-ghost use Rattle.rules.specs.Outputs.{cornerLimit, badTable, entriesRight, rising, cornersRight, inRange, firstOf, surveyRefusal, checks};
+ghost use Rattle.rules.specs.Outputs.{cornerLimit, badTable, entriesRight, rising, cornersRight, inRange, firstOf, tableChecks, surveyRefusal, checks};
+ghost use Rattle.rules.specs.Resounding.{checkAmended};
 ghost use Rattle.records.specs.Keys.{placesOf};
 ghost use Rattle.cells.specs.Laid.{Laid};
-ghost use Rattle.octants.specs.Octants.{LookedUp, Octants};
+ghost use Rattle.octants.specs.Octants.{LookedUp};
 ghost use Rattle.checks.specs.Marks.{marked};
+ghost use Rattle.checks.specs.Tables.{Tables};
 
 // Checks 1 and 2: empty, not whole records of n bytes, or over the limit.
 fn bad_table(t: &[u8], n: usize, limit: usize) -> bool
@@ -107,12 +110,11 @@ fn corners_right(cells: &[u8], laid: &[u64], corners: &[u8], octants: &[u16]) ->
     all_marked(&marks, count)
 }
 
-// Checks 1 to 7: the number of the first that applies, or 0. Then the tables hold the cells and their corners.
+// Checks 1 to 6: the number of the first that applies, or 0. Then the tables hold the cells and their corners.
 pub fn read(cells: &[u8], corners: &[u8], laid: &mut [u64], octants: &mut [u16]) -> u32
     requires { ⌜ (length (now laid) ≡ 2049) × (length (now octants) ≡ 16392) ⌝ }
-    ensures { λ r. ⌜ r ≡ surveyRefusal (now (cells .entry)) (now (corners .entry)) ⌝ }
-    ensures { λ r. ⌜ (r ≡ 0 → Laid (now (cells .entry)) (now (laid .exit))) ⌝ }
-    ensures { λ r. ⌜ (r ≡ 0 → Octants (now (cells .entry)) (now (corners .entry)) (now (octants .exit))) ⌝ }
+    ensures { λ r. ⌜ r ≡ firstOf (tableChecks (now (cells .entry)) (now (corners .entry))) ⌝ }
+    ensures { λ r. ⌜ (r ≡ 0 → Tables (now (cells .entry)) (now (corners .entry)) (now (laid .exit)) (now (octants .exit))) ⌝ }
 {
     if bad_table(cells, 4, 8196) {
         return 1;
@@ -135,35 +137,26 @@ pub fn read(cells: &[u8], corners: &[u8], laid: &mut [u64], octants: &mut [u16])
     if !corners_right(cells, laid, corners, octants) {
         return 6;
     }
-    if bad_sounding(corners, count) {
+    0
+}
+
+// Check 7, of tables that checks 1 to 6 pass: 7 or 0.
+fn soundings(cells: &[u8], corners: &[u8]) -> u32
+    requires { ⌜ firstOf (tableChecks (now cells) (now corners)) ≡ 0 ⌝ }
+    ensures { λ r. ⌜ r ≡ surveyRefusal (now (cells .entry)) (now (corners .entry)) ⌝ }
+{
+    if bad_sounding(corners, corners.len() / records::SIZE) {
         return 7;
     }
     0
 }
 
-// A check of the survey by itself, checks 1 to 7: the number of the first that applies, or 0.
-pub fn check(cells: &[u8], corners: &[u8]) -> u32
-    ensures { λ r. ⌜ r ≡ surveyRefusal (now (cells .entry)) (now (corners .entry)) ⌝ }
-{
-    let mut laid = [0u64; 2049];
-    let mut octants = [0u16; 16392];
-    read(cells, corners, &mut laid, &mut octants)
-}
-
-// Checks 1 to 8, the clearance last: the number of the first that applies, or 0. Then the tables hold the cells and their corners.
-pub fn refusal(
-    cells: &[u8],
-    corners: &[u8],
-    clearance: f32,
-    laid: &mut [u64],
-    octants: &mut [u16],
-) -> u32
-    requires { ⌜ (length (now laid) ≡ 2049) × (length (now octants) ≡ 16392) ⌝ }
+// Checks 7 and 8, of tables that checks 1 to 6 pass: the number of the first that applies, or 0.
+pub fn refusal(cells: &[u8], corners: &[u8], clearance: f32) -> u32
+    requires { ⌜ firstOf (tableChecks (now cells) (now corners)) ≡ 0 ⌝ }
     ensures { λ r. ⌜ r ≡ firstOf (checks (now (cells .entry)) (now (corners .entry)) clearance) ⌝ }
-    ensures { λ r. ⌜ (r ≡ 0 → Laid (now (cells .entry)) (now (laid .exit))) ⌝ }
-    ensures { λ r. ⌜ (r ≡ 0 → Octants (now (cells .entry)) (now (corners .entry)) (now (octants .exit))) ⌝ }
 {
-    let number = read(cells, corners, laid, octants);
+    let number = soundings(cells, corners);
     if number != 0 {
         return number;
     }
@@ -171,4 +164,34 @@ pub fn refusal(
         return 8;
     }
     0
+}
+
+// The rest of a check of the survey by itself where there are amendments: 14 and 15, then 7 of the corner table as amended.
+fn check_amended(cells: &[u8], corners: &[u8], amendments: &[u8]) -> u32
+    requires { ⌜ firstOf (tableChecks (now cells) (now corners)) ≡ 0 ⌝ }
+    ensures { λ r. ⌜ r ≡ checkAmended (now (cells .entry)) (now (corners .entry)) (now (amendments .entry)) ⌝ }
+{
+    let mut table = [0u8; 58464];
+    let number = amendments::refusal(cells, corners, amendments, &mut table);
+    if number != 0 {
+        return number;
+    }
+    let n = corners.len();
+    soundings(cells, &table[..n])
+}
+
+// A check of the survey by itself: 1 to 6, 14, 15, then 7. The number of the first that applies, or 0.
+pub fn check(cells: &[u8], corners: &[u8], amendments: &[u8]) -> u32
+    ensures { λ r. ⌜ r ≡ checkAmended (now (cells .entry)) (now (corners .entry)) (now (amendments .entry)) ⌝ }
+{
+    let mut laid = [0u64; 2049];
+    let mut octants = [0u16; 16392];
+    let number = read(cells, corners, &mut laid, &mut octants);
+    if number != 0 {
+        return number;
+    }
+    if amendments.len() == 0 {
+        return soundings(cells, corners);
+    }
+    check_amended(cells, corners, amendments)
 }

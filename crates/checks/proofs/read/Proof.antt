@@ -5,17 +5,15 @@ use mathlib.Core.Bool.{not}
 use borrow.Author.Tests.{not-false}
 use Rattle.rules.specs.Outputs.{cornerLimit}
 use Rattle.rules.specs.Survey.{recordSize}
-use Rattle.octree.proofs.Accepted.{checked}
+use Rattle.octree.proofs.Accepted.{table-fits, tables-checked}
 use Rattle.checks.proofs.Passed.{octants-of}
 use Rattle.checks.proofs.Order.{
-  table-fits,
   refused-one,
   refused-two,
   refused-three,
   refused-four,
   refused-five,
   refused-six,
-  refused-seven,
   none-refused,
 }
 use borrow.Author.Needs.{needs}
@@ -30,7 +28,7 @@ returns c =
     let a = c .before .before .before .before .before .before .args in
     let e = refused-one (a .cells .now) (a .corners .now)
     (sym (c .before .bad-table .ensures) ∙ c .if1 .taken) in
-    (e, ((λ z. absurd (omega arith)), (λ z. absurd (omega arith))))
+    (e, λ z. absurd (omega arith))
 
 bad-table-requires-2 : tie.Need-bad-table-requires-2
 bad-table-requires-2 c κs = search needs
@@ -42,12 +40,12 @@ returns-2 c =
     let e = refused-two (a .cells .now) (a .corners .now)
     (sym (p1 .before .bad-table .ensures) ∙ p1 .if1 .left)
     (sym (c .before .bad-table2 .ensures) ∙ c .if2 .taken) in
-    (e, ((λ z. absurd (omega arith)), (λ z. absurd (omega arith))))
+    (e, λ z. absurd (omega arith))
 
 entries-right-requires : tie.Need-entries-right-requires
 entries-right-requires c κs =
     let p1 = c .before .before in
-    (refl, table-fits 4 8196 (p1 .before .before .before .before .before .before .args .cells .now) (sym (p1 .before .bad-table .ensures) ∙ p1 .if1 .left))
+    (refl, table-fits 4 8196 (p1 .before .before .before .before .before .before .args .cells .now) (sym (p1 .before .bad-table .ensures) ∙ p1 .if1 .left) .1)
 
 returns-3 : tie.Need-returns-3
 returns-3 c =
@@ -58,7 +56,7 @@ returns-3 c =
     (sym (p1 .before .bad-table .ensures) ∙ p1 .if1 .left)
     (sym (p2 .before .bad-table2 .ensures) ∙ p2 .if2 .left)
     (ap not (sym (c .before .entries-right .ensures)) ∙ c .if3 .taken) in
-    (e, ((λ z. absurd (omega arith)), (λ z. absurd (omega arith))))
+    (e, λ z. absurd (omega arith))
 
 lay-out-requires : tie.Need-lay-out-requires
 lay-out-requires c κs =
@@ -66,7 +64,7 @@ lay-out-requires c κs =
     let p2 = p3 .before .before in
     let p1 = p2 .before .before in
     let a = p1 .before .before .before .before .before .before .args in
-    let most = table-fits 4 8196 (a .cells .now) (sym (p1 .before .bad-table .ensures) ∙ p1 .if1 .left) in
+    let most = table-fits 4 8196 (a .cells .now) (sym (p1 .before .bad-table .ensures) ∙ p1 .if1 .left) .1 in
     (refl, (sym (p3 .before .entries-right .ensures) ∙ not-false (p3 .before .entries-right .result) (p3 .if3 .left), omega arith))
 
 same-length : tie.Need-same-length
@@ -83,7 +81,7 @@ returns-4 c =
     (sym (p2 .before .bad-table2 .ensures) ∙ p2 .if2 .left)
     (ap not (sym (p3 .before .entries-right .ensures)) ∙ p3 .if3 .left)
     (sym (c .before .before .before .lay-out .ensures .0) ∙ c .if4 .taken) in
-    (e, ((λ z. absurd (omega arith)), (λ z. absurd (omega arith))))
+    (e, λ z. absurd (omega arith))
 
 corners-rise-requires : tie.Need-corners-rise-requires
 corners-rise-requires c κs = search needs
@@ -104,7 +102,7 @@ returns-5 c =
     (ap not (sym (p3 .before .entries-right .ensures)) ∙ p3 .if3 .left)
     (sym (p4 .before .before .before .lay-out .ensures .0) ∙ p4 .if4 .left)
     (ap not (sym (c .before .corners-rise .ensures)) ∙ c .if5 .taken) in
-    (e, ((λ z. absurd (omega arith)), (λ z. absurd (omega arith))))
+    (e, λ z. absurd (omega arith))
 
 fill-requires : tie.Need-fill-requires
 fill-requires c κs =
@@ -115,8 +113,8 @@ fill-requires c κs =
     let p1 = p2 .before .before in
     let s = p1 .before .before .before .before .before .before in
     let a = s .args in
-    let most = table-fits 4 8196 (a .cells .now) (sym (p1 .before .bad-table .ensures) ∙ p1 .if1 .left) in
-    let few = table-fits recordSize cornerLimit (a .corners .now) (sym (p2 .before .bad-table2 .ensures) ∙ p2 .if2 .left) in
+    let most = table-fits 4 8196 (a .cells .now) (sym (p1 .before .bad-table .ensures) ∙ p1 .if1 .left) .1 in
+    let few = table-fits recordSize cornerLimit (a .corners .now) (sym (p2 .before .bad-table2 .ensures) ∙ p2 .if2 .left) .1 in
     let laid = p4 .before .before .before .lay-out .ensures .1 (p4 .if4 .left) in
     let rises = sym (p5 .before .corners-rise .ensures) ∙ not-false (p5 .before .corners-rise .result) (p5 .if5 .left) in (
       rises,
@@ -137,8 +135,8 @@ corners-right-requires c κs =
     let p2 = p3 .before .before in
     let p1 = p2 .before .before in
     let a = p1 .before .before .before .before .before .before .args in
-    let most = table-fits 4 8196 (a .cells .now) (sym (p1 .before .bad-table .ensures) ∙ p1 .if1 .left) in
-    let few = table-fits recordSize cornerLimit (a .corners .now) (sym (p2 .before .bad-table2 .ensures) ∙ p2 .if2 .left) in
+    let most = table-fits 4 8196 (a .cells .now) (sym (p1 .before .bad-table .ensures) ∙ p1 .if1 .left) .1 in
+    let few = table-fits recordSize cornerLimit (a .corners .now) (sym (p2 .before .bad-table2 .ensures) ∙ p2 .if2 .left) .1 in
     let right = sym (p3 .before .entries-right .ensures) ∙ not-false (p3 .before .entries-right .result) (p3 .if3 .left) in
     let rises = sym (p5 .before .corners-rise .ensures) ∙ not-false (p5 .before .corners-rise .result) (p5 .if5 .left) in (
       right,
@@ -166,10 +164,7 @@ returns-6 c =
     (sym (p4 .before .before .before .lay-out .ensures .0) ∙ p4 .if4 .left)
     (ap not (sym (p5 .before .corners-rise .ensures)) ∙ p5 .if5 .left)
     (ap not (sym (c .before .corners-right .ensures)) ∙ c .if6 .taken) in
-    (e, ((λ z. absurd (omega arith)), (λ z. absurd (omega arith))))
-
-bad-sounding-requires : tie.Need-bad-sounding-requires
-bad-sounding-requires c κs = search needs
+    (e, λ z. absurd (omega arith))
 
 same-length-5 : tie.Need-same-length-5
 same-length-5 c = search needs
@@ -179,54 +174,31 @@ same-length-6 c = search needs
 
 returns-7 : tie.Need-returns-7
 returns-7 c =
-    let p6 = c .before .before in
-    let p5 = p6 .before .before .before .before .before .before .before .before .before in
+    let p5 = c .before .before .before .before .before .before .before .before .before in
     let p4 = p5 .before .before in
     let p3 = p4 .before .before .before .before .before in
     let p2 = p3 .before .before in
     let p1 = p2 .before .before in
-    let a = p1 .before .before .before .before .before .before .args in
-    let e = refused-seven (a .cells .now) (a .corners .now)
-    (sym (p1 .before .bad-table .ensures) ∙ p1 .if1 .left)
-    (sym (p2 .before .bad-table2 .ensures) ∙ p2 .if2 .left)
-    (ap not (sym (p3 .before .entries-right .ensures)) ∙ p3 .if3 .left)
-    (sym (p4 .before .before .before .lay-out .ensures .0) ∙ p4 .if4 .left)
-    (ap not (sym (p5 .before .corners-rise .ensures)) ∙ p5 .if5 .left)
-    (ap not (sym (p6 .before .corners-right .ensures)) ∙ p6 .if6 .left)
-    (sym (c .before .bad-sounding .ensures) ∙ c .if7 .taken) in
-    (e, ((λ z. absurd (omega arith)), (λ z. absurd (omega arith))))
-
-same-length-7 : tie.Need-same-length-7
-same-length-7 c = search needs
-
-same-length-8 : tie.Need-same-length-8
-same-length-8 c = search needs
-
-returns-8 : tie.Need-returns-8
-returns-8 c =
-    let p6 = c .before .before in
-    let p5 = p6 .before .before .before .before .before .before .before .before .before in
-    let p4 = p5 .before .before in
-    let p3 = p4 .before .before .before .before .before in
-    let p2 = p3 .before .before in
-    let p1 = p2 .before .before in
-    let a = p1 .before .before .before .before .before .before .args in
+    let s = p1 .before .before .before .before .before .before in
+    let a = s .args in
+    let most = table-fits 4 8196 (a .cells .now) (sym (p1 .before .bad-table .ensures) ∙ p1 .if1 .left) .1 in
     let passed = none-refused (a .cells .now) (a .corners .now)
     (sym (p1 .before .bad-table .ensures) ∙ p1 .if1 .left)
     (sym (p2 .before .bad-table2 .ensures) ∙ p2 .if2 .left)
     (ap not (sym (p3 .before .entries-right .ensures)) ∙ p3 .if3 .left)
     (sym (p4 .before .before .before .lay-out .ensures .0) ∙ p4 .if4 .left)
     (ap not (sym (p5 .before .corners-rise .ensures)) ∙ p5 .if5 .left)
-    (ap not (sym (p6 .before .corners-right .ensures)) ∙ p6 .if6 .left)
-    (sym (c .before .bad-sounding .ensures) ∙ c .if7 .left) in
+    (ap not (sym (c .before .corners-right .ensures)) ∙ c .if6 .left) in
     let laid = p4 .before .before .before .lay-out .ensures .1 (p4 .if4 .left) in
-    let filled = p6 .before .before .before .before .before .before .fill .ensures in (
+    let filled = c .before .before .before .before .before .before .fill .ensures in (
       passed,
-      (
-        (λ z. laid),
-        λ z. octants-of (a .cells .now) (a .corners .now) (checked (a .cells .now) (a .corners .now) (sym passed)) _ _
-            (p1 .before .before .before .before .shared-slice-known2 .given) laid filled,
-      ),
+      λ z. record {
+        passed = sym passed;
+        cell = laid;
+        cell-room = search (needs, most);
+        corner = octants-of (a .cells .now) (a .corners .now) (tables-checked (a .cells .now) (a .corners .now) (sym passed)) _ _
+            (p1 .before .before .before .before .shared-slice-known2 .given) laid filled;
+      },
     )
 
 pub read-spec : {M : Type 1} → statement M
@@ -250,10 +222,6 @@ read-spec =
     same-length-3
     same-length-4
     returns-6
-    bad-sounding-requires
     same-length-5
     same-length-6
-    returns-7
-    same-length-7
-    same-length-8
-    returns-8)
+    returns-7)
