@@ -3,3 +3,4 @@ pub mod Marking
 pub mod Corners
 pub mod Order
 pub mod Passed
+pub mod Amended

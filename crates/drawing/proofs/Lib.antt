@@ -3,3 +3,4 @@ pub mod Passed
 pub mod Drawn
 pub mod Outcome
 pub mod Settling
+pub mod Amended

@@ -16,7 +16,7 @@ use Rattle.rules.specs.declared.Drawn.{Drawn}
 use Rattle.octree.proofs.Accepted.{drawable→}
 use Rattle.closing.proofs.Closing.{closes}
 use Rattle.places.proofs.OnEdge.{on-edge}
-use Rattle.drawing.specs.Draws.{lent, Draws}
+use Rattle.drawing.specs.Draws.{Draws}
 use Rattle.drawing.proofs.Drawn.{given, draw-is, both-fit, drawn-fits, closed-in}
 
 abbrev pub returned : ℕ → ℕ → ℕ → Drawn
@@ -52,7 +52,7 @@ module _ (tc tk : List ℕ) (clearance : Float) (ps : List Float) (ts : List ℕ
 
   -- refused by a check before the slices': nothing is written
   pub refused : (number : ℕ) → number ≡ firstOf (drawingChecks tc tk clearance) → (number ≡ 0 → ⊥)
-      → Draws (lent tc tk clearance ps ts) (returned number 0 0) ps ts
+      → Draws (draw tc tk clearance ps ts) (returned number 0 0) ps ts
   unfolding outcome drawable
   refused number is some =
       let d = draw-outcome false false number (ap (λ (n : ℕ). eqb n 0) (sym is) ∙ ne-eqb number 0 some) (ne-eqb number 0 some) (sym is) in
@@ -69,7 +69,7 @@ module _ (tc tk : List ℕ) (clearance : Float) (ps : List Float) (ts : List ℕ
     short-is = sym (is ∙ (λ i. firstOf ((9, ltb (length ps) (3 * points-are i)) ∷ (10, ltb (length ts) (3 * triangles-are i)) ∷ [])))
 
     -- a slice is too short: nothing is written
-    pub short : (number ≡ 0 → ⊥) → Draws (lent tc tk clearance ps ts) (returned number n m) ps ts
+    pub short : (number ≡ 0 → ⊥) → Draws (draw tc tk clearance ps ts) (returned number n m) ps ts
     unfolding outcome
     short some =
         let d = draw-outcome true false number ok (ne-eqb number 0 some) short-is in
@@ -86,7 +86,7 @@ module _ (tc tk : List ℕ) (clearance : Float) (ps : List Float) (ts : List ℕ
 
     -- drawn: the points and the triangles are written
     pub drawn : number ≡ 0 → (newPoints : List Float) (newTriangles : List ℕ) → newPoints ≡ written (pointFloats tc tk clearance) ps
-        → newTriangles ≡ written (triangleNumbers tc tk clearance) ts → Draws (lent tc tk clearance ps ts) (returned 0 n m) newPoints newTriangles
+        → newTriangles ≡ written (triangleNumbers tc tk clearance) ts → Draws (draw tc tk clearance ps ts) (returned 0 n m) newPoints newTriangles
     unfolding outcome
     drawn zero newPoints newTriangles p t =
         let d = draw-outcome true true 0 ok refl (short-is ∙ zero) in
@@ -99,7 +99,7 @@ module _ (tc tk : List ℕ) (clearance : Float) (ps : List Float) (ts : List ℕ
 
 -- what the rules draw is closed wherever the number is 0
 pub drawn-closed : (tc tk : List ℕ) (clearance : Float) (ps : List Float) (ts : List ℕ) (r : Drawn) (points : List Float) (triangles : List ℕ)
-    → Draws (lent tc tk clearance ps ts) r points triangles → r .number ≡ 0 → ClosedIn tc tk clearance r points triangles
+    → Draws (draw tc tk clearance ps ts) r points triangles → r .number ≡ 0 → ClosedIn tc tk clearance r points triangles
 drawn-closed tc tk clearance ps ts r points triangles d zero =
     let D : Drawing = draw tc tk clearance ps ts in
     let none : D .result .number ≡ 0 = sym (ap (λ (r : Drawn). r .number) (d .result-is)) ∙ zero in

@@ -1,16 +1,18 @@
-// The drawing call: the checks, 12 after 8, the tables, all triangles, the refusals of slices that are too short, the points. The slices are written only where
-// both have room. Uses checks, edges, twins, across, crossings and triangles.
+// The drawing call: the checks of the tables, the amendments, the other checks, 12 after 8, the tables of edges and points, all triangles, the refusals of slices
+// that are too short, the points. The slices are written only where both have room. Uses checks, amendments, edges, twins, across, crossings and triangles.
 ghost use mathlib.Core.Path.{_≡_};
 ghost use mathlib.Core.Bool.{true};
 ghost use mathlib.Core.List.{[], _∷_};
 ghost use Prim.Native.Nat.{_*_, _≤_};
 ghost use lib.Dec.{ltb};
 ghost use lib.ListN.{length};
-ghost use Rattle.rules.specs.Outputs.{firstOf, accepted, drawingChecks, drawable};
+ghost use Rattle.rules.specs.Outputs.{firstOf, tableChecks, accepted, drawingChecks, drawable, draw};
+ghost use Rattle.rules.specs.Resounding.{amended, drawAmended};
 ghost use Rattle.rules.specs.Closing.{ClosedIn};
-ghost use Rattle.edges.specs.Tables.{Levels};
+ghost use Rattle.checks.specs.Tables.{Tables};
+ghost use Rattle.edges.specs.Tables.{Levels, Wets};
 ghost use Rattle.drawing.specs.Filled.{Read, Filled};
-ghost use Rattle.drawing.specs.Draws.{lent, Draws};
+ghost use Rattle.drawing.specs.Draws.{Draws};
 use rules::Drawn;
 
 // Refusals 9 and 10: the number of the slice that is too short, or 0.
@@ -39,21 +41,15 @@ fn result(number: u32, n: usize, m: u32) -> Drawn
     }
 }
 
-// The checks of drawing but those of the slices: 1 to 8, then 12. The number of the first that applies, or 0: then the tables hold the cells, their corners and
+// The checks of drawing after those of the tables and before those of the slices: 7, 8, then 12. The number of the first that applies, or 0: then it is known
 // which corners are wet.
-pub fn refusal(
-    cells: &[u8],
-    corners: &[u8],
-    clearance: f32,
-    laid: &mut [u64],
-    octants: &mut [u16],
-    wets: &mut [u8],
-) -> u32
-    requires { ⌜ (length (now laid) ≡ 2049) × (length (now octants) ≡ 16392) × (length (now wets) ≡ 4872) ⌝ }
+pub fn refusal(cells: &[u8], corners: &[u8], clearance: f32, wets: &mut [u8]) -> u32
+    requires { ⌜ firstOf (tableChecks (now cells) (now corners)) ≡ 0 ⌝ }
+    requires { ⌜ length (now wets) ≡ 4872 ⌝ }
     ensures { λ r. ⌜ r ≡ firstOf (drawingChecks (now (cells .entry)) (now (corners .entry)) clearance) ⌝ }
-    ensures { λ r. ⌜ (r ≡ 0 → Read (now (cells .entry)) (now (corners .entry)) clearance (now (laid .exit)) (now (octants .exit)) (now (wets .exit))) ⌝ }
+    ensures { λ r. ⌜ (r ≡ 0 → Wets (now (corners .entry)) clearance (now (wets .exit))) ⌝ }
 {
-    let number = checks::refusal(cells, corners, clearance, laid, octants);
+    let number = checks::refusal(cells, corners, clearance);
     if number != 0 {
         return number;
     }
@@ -100,7 +96,7 @@ pub fn draw_drawable(
 ) -> Drawn
     requires { ⌜ drawable (now cells) (now corners) clearance ≡ true ⌝ }
     requires { ⌜ Read (now cells) (now corners) clearance (now laid) (now octants) (now wets) ⌝ }
-    ensures { λ r. ⌜ Draws (lent (now (cells .entry)) (now (corners .entry)) clearance (now (points .entry)) (now (triangles .entry))) r
+    ensures { λ r. ⌜ Draws (draw (now (cells .entry)) (now (corners .entry)) clearance (now (points .entry)) (now (triangles .entry))) r
         (now (points .exit)) (now (triangles .exit)) ⌝ }
 {
     // 11 everywhere: no edge starts at any slot yet.
@@ -142,45 +138,88 @@ pub fn draw_drawable(
     result(0, n, m)
 }
 
-// Draws the surface of a survey at a clearance: document 01, "Outputs and refusals", and document 02, request 3. For every input, the result and both slices
-// are those of the rules; and where the number is 0, what stands in the slices is closed, without exception.
-pub fn draw(
+// Draws a survey whose tables checks 1 to 6 pass, with this corner table in force.
+fn draw_in_force(
     cells: &[u8],
     corners: &[u8],
     clearance: f32,
+    laid: &[u64],
+    octants: &[u16],
     points: &mut [f32],
     triangles: &mut [u32],
 ) -> Drawn
-    ensures exact { λ r. ⌜ Draws (lent (now (cells .entry)) (now (corners .entry)) clearance (now (points .entry)) (now (triangles .entry))) r
+    requires { ⌜ Tables (now cells) (now corners) (now laid) (now octants) ⌝ }
+    ensures { λ r. ⌜ Draws (draw (now (cells .entry)) (now (corners .entry)) clearance (now (points .entry)) (now (triangles .entry))) r
         (now (points .exit)) (now (triangles .exit)) ⌝ }
-    ensures closes { λ r. ⌜ (r .number ≡ 0 → ClosedIn (now (cells .entry)) (now (corners .entry)) clearance r (now (points .exit)) (now (triangles .exit))) ⌝ }
 {
-    let mut laid = [0u64; 2049];
-    let mut octants = [0u16; 16392];
     let mut wets = [0u8; 4872];
-    let number = refusal(
-        cells,
-        corners,
-        clearance,
-        &mut laid,
-        &mut octants,
-        &mut wets,
-    );
+    let number = refusal(cells, corners, clearance, &mut wets);
     if number != 0 {
-        return Drawn {
-            number: number,
-            points: 0,
-            triangles: 0,
-        };
+        return result(number, 0, 0);
     }
     draw_drawable(
         cells,
         corners,
         clearance,
-        &laid,
-        &octants,
+        laid,
+        octants,
         &wets,
         points,
         triangles,
+    )
+}
+
+// The same where there are amendments: 14 and 15, then the drawing with the corner table as amended.
+fn draw_amended(
+    cells: &[u8],
+    corners: &[u8],
+    amendments: &[u8],
+    clearance: f32,
+    laid: &[u64],
+    octants: &[u16],
+    points: &mut [f32],
+    triangles: &mut [u32],
+) -> Drawn
+    requires { ⌜ Tables (now cells) (now corners) (now laid) (now octants) ⌝ }
+    ensures { λ r. ⌜ Draws (drawAmended (now (cells .entry)) (now (corners .entry)) (now (amendments .entry)) clearance
+        (now (points .entry)) (now (triangles .entry))) r (now (points .exit)) (now (triangles .exit)) ⌝ }
+{
+    let mut table = [0u8; 58464];
+    let number = amendments::refusal(cells, corners, amendments, &mut table);
+    if number != 0 {
+        return result(number, 0, 0);
+    }
+    let n = corners.len();
+    draw_in_force(cells, &table[..n], clearance, laid, octants, points, triangles)
+}
+
+// Draws the surface of a survey, as amended, at a clearance: document 01, "Outputs and refusals", and document 02, requests 3 and 6. For every input, the result
+// and both slices are those of the rules; and where the number is 0, what stands in the slices is closed, without exception.
+pub fn draw(
+    cells: &[u8],
+    corners: &[u8],
+    amendments: &[u8],
+    clearance: f32,
+    points: &mut [f32],
+    triangles: &mut [u32],
+) -> Drawn
+    ensures exact { λ r. ⌜ Draws (drawAmended (now (cells .entry)) (now (corners .entry)) (now (amendments .entry)) clearance
+        (now (points .entry)) (now (triangles .entry))) r (now (points .exit)) (now (triangles .exit)) ⌝ }
+    ensures closes { λ r. ⌜ (r .number ≡ 0 → ClosedIn (now (cells .entry)) (amended (now (corners .entry)) (now (amendments .entry))) clearance r
+        (now (points .exit)) (now (triangles .exit))) ⌝ }
+{
+    let mut laid = [0u64; 2049];
+    let mut octants = [0u16; 16392];
+    let number = checks::read(cells, corners, &mut laid, &mut octants);
+    if number != 0 {
+        return result(number, 0, 0);
+    }
+    if amendments.len() == 0 {
+        return draw_in_force(
+            cells, corners, clearance, &laid, &octants, points, triangles,
+        );
+    }
+    draw_amended(
+        cells, corners, amendments, clearance, &laid, &octants, points, triangles,
     )
 }

@@ -7,11 +7,11 @@ use native.Mathlib.Omega.{arith}
 use lib.Dec.{leb}
 use lib.ListN.{length}
 use Rattle.rules.specs.Steps.{allTriangles}
-use Rattle.rules.specs.Outputs.{accepted, surveyOf}
+use Rattle.rules.specs.Outputs.{accepted, surveyOf, draw}
 use Rattle.leaves.proofs.Leaves.{points-few}
 use Rattle.triangles.specs.Settled.{Settled}
 use Rattle.triangles.proofs.Settling.{left-alone, written-over}
-use Rattle.drawing.specs.Draws.{lent, Draws}
+use Rattle.drawing.specs.Draws.{Draws}
 use Rattle.drawing.proofs.Passed.{drawable-accepted, levels-fresh, few-cells, entries-follow, none-deep}
 use Rattle.drawing.proofs.Outcome.{short, fits, drawn}
 use Rattle.drawing.proofs.Settling.{known, not-written, is-written}
@@ -158,9 +158,9 @@ returns c =
     let some = c .before .if1 .taken in
     let still = left-alone (settled q) (not-written (length (a .points .now)) (length (a .triangles .now)) (3 * n q) (3 * m q) (number q)
     (q .shortage .ensures) some) in
-    subst (λ r. Draws (lent (a .cells .now) (a .corners .now) (a .clearance) (a .points .now) (a .triangles .now)) r (a .points .now) (after q))
+    subst (λ r. Draws (draw (a .cells .now) (a .corners .now) (a .clearance) (a .points .now) (a .triangles .now)) r (a .points .now) (after q))
     (sym (c .result .ensures))
-    (subst (Draws (lent (a .cells .now) (a .corners .now) (a .clearance) (a .points .now) (a .triangles .now)) _ (a .points .now)) (sym still)
+    (subst (Draws (draw (a .cells .now) (a .corners .now) (a .clearance) (a .points .now) (a .triangles .now)) _ (a .points .now)) (sym still)
     (short (a .cells .now) (a .corners .now) (a .clearance) (a .points .now) (a .triangles .now) (s q .pre .0) (n q) (m q) (number q)
     (t q .fill-tables .ensures .count) (settled q .counted) (q .shortage .ensures) some))
 
@@ -197,7 +197,7 @@ returns-2 c =
     let a = s q .args in
     let zero = e .if1 .left in
     let points = w .write-points .last .1 .1 .1 .1 .1 .1 .0 in
-    subst (λ r. Draws (lent (a .cells .now) (a .corners .now) (a .clearance) (a .points .now) (a .triangles .now)) r points (after q))
+    subst (λ r. Draws (draw (a .cells .now) (a .corners .now) (a .clearance) (a .points .now) (a .triangles .now)) r points (after q))
     (sym (c .result2 .ensures))
     (drawn (a .cells .now) (a .corners .now) (a .clearance) (a .points .now) (a .triangles .now) (s q .pre .0) (n q) (m q) (number q)
     (t q .fill-tables .ensures .count) (settled q .counted) (q .shortage .ensures) zero points (after q) (w .write-points .ensures)
