@@ -2,23 +2,27 @@
 -- Assumes nothing.
 use Prim.Native.Nat.{ℕ, _*_, _≤_, _<_}
 use mathlib.Core.Path.{_≡_, refl, sym, ap, _∙_}
-use mathlib.Core.Logic.{inl, inr}
-use mathlib.Core.Bool.{Bool, true, false, not, _||_, cond}
-use mathlib.Core.List.{List, [], _∷_}
+use mathlib.Core.Bool.{Bool, true, false, not, _&&_, cond}
+use mathlib.Core.List.{List, [], _∷_, _++_}
 use native.Mathlib.Omega.{arith}
 use lib.Dec.{T, eqb, ltb, eqb→eq}
 use lib.ListN.{length, take, length-take}
+use lib.Ieee.{Float}
 use borrow.Author.Tests.{ne-eqb}
+use Rattle.base.specs.Grid.{Place, axisOf}
 use Rattle.base.proofs.Tests.{→true}
 use Rattle.rules.specs.Survey.{recordSize, recordCount, recordBytes, cellsOf}
-use Rattle.rules.specs.Outputs.{cornerLimit, badTable, firstOf, tableChecks}
-use Rattle.rules.specs.Resounding.{inForce, amended, badAmendments, strayAmendment, amendmentChecks, asAmended}
-use Rattle.octree.proofs.Accepted.{numbered, first-append, first-none, table-fits, tables-checked}
+use Rattle.rules.specs.Edges.{isEdge}
+use Rattle.rules.specs.Outputs.{cornerLimit, firstOf, tableChecks, surveyChecks, surveyRefusal, checks, drawingChecks, drawable, sliceChecks, draw}
+use Rattle.rules.specs.Outputs.{levelOf, refused, enquiry}
+use Rattle.rules.specs.Water.{volumeChecks, volume}
+use Rattle.rules.specs.Resounding.{inForce, amended, badAmendments, strayAmendment, amendmentChecks, asAmended, undrawn, unreckoned}
+use Rattle.octree.proofs.Accepted.{numbered, first-append, first-none, first-unlike, table-fits, tables-checked}
 use Rattle.amendments.proofs.Records.{whole, collect-same}
 use Rattle.amendments.proofs.InForce.{inForceAt, amended-is, amended-length, amended-places}
 
 -- no check of the tables has the number 0
-tables-numbered : (tc tk : List ℕ) → T (numbered (tableChecks tc tk))
+pub tables-numbered : (tc tk : List ℕ) → T (numbered (tableChecks tc tk))
 unfolding tableChecks
 tables-numbered tc tk = tt
 
@@ -93,7 +97,6 @@ none-checks tc tk = lawful-checks tc tk [] refl (unfold strayAmendment in refl)
 module _ {A : Type 0} (tc tk ta : List ℕ) (refusal : ℕ → A) (call : List ℕ → A) where
   -- by the first check that applies
   by-number : let n = firstOf (amendmentChecks tc tk ta) in asAmended tc tk ta refusal call ≡ cond (eqb n 0) (call (amended tk ta)) (refusal n)
-  unfolding amendmentChecks amended
   by-number = refl
 
   -- refused by any of the checks of the three tables
@@ -117,3 +120,46 @@ none-amended tc tk refusal call pass = called tc tk [] refusal call (none-checks
 pub empty-is : (t : List ℕ) → length t ≡ 0 → t ≡ []
 empty-is [] e = refl
 empty-is (b ∷ t) e = absurd (omega arith)
+
+-- ---- the plain calls
+
+module _ (tc tk : List ℕ) (n : ℕ) (is : n ≡ firstOf (tableChecks tc tk)) (some : n ≡ 0 → ⊥) where
+  -- where one of the first six checks applies, its number stands, whatever checks come after
+  stands : (ts more : List (ℕ × Bool)) → ts ≡ tableChecks tc tk ++ more → firstOf ts ≡ n
+  stands ts more e = ap firstOf e ∙ first-append (tableChecks tc tk) more (tables-numbered tc tk) ∙ rw (← is, ne-eqb n 0 some)
+
+  -- so each call is refused with it: a check of the survey by itself,
+  pub survey-refused : surveyRefusal tc tk ≡ n
+  unfolding surveyRefusal surveyChecks tableChecks
+  survey-refused = stands (surveyChecks tc tk) _ refl
+
+  -- an enquiry,
+  pub enquiry-refused : (clearance : Float) (axis : ℕ) (p : Place) (size : ℕ) → enquiry tc tk clearance axis p size ≡ refused n
+  unfolding enquiry
+  enquiry-refused clearance axis p size =
+      let ts : List (ℕ × Bool) = checks tc tk clearance ++ (11, not (ltb axis 3 && isEdge (cellsOf tc) (axisOf axis) p (levelOf size))) ∷ [] in
+      let number : firstOf ts ≡ n = unfold checks surveyChecks tableChecks in stands ts _ refl in
+      rw (number, ne-eqb n 0 some)
+
+  -- a drawing, by the checks before the slices' as by all,
+  drawing-stands : (clearance : Float) → firstOf (drawingChecks tc tk clearance) ≡ n
+  unfolding drawingChecks checks surveyChecks tableChecks
+  drawing-stands clearance = stands (drawingChecks tc tk clearance) _ refl
+
+  module _ (clearance : Float) (ps : List Float) (ts : List ℕ) where
+    slices-stand : firstOf (drawingChecks tc tk clearance ++ sliceChecks tc tk clearance ps ts) ≡ n
+    unfolding drawingChecks checks surveyChecks tableChecks
+    slices-stand = stands (drawingChecks tc tk clearance ++ sliceChecks tc tk clearance ps ts) _ refl
+
+    pub draw-refused : draw tc tk clearance ps ts ≡ undrawn n ps ts
+    unfolding draw drawable
+    draw-refused = rw (slices-stand, drawing-stands clearance, ne-eqb n 0 some)
+
+    -- and a volume, which is as a drawing since the number is not 13
+    pub volume-refused : (reference : Place) → volume tc tk clearance reference ps ts ≡ unreckoned n ps ts
+    unfolding volume drawable
+    volume-refused reference =
+        let checks-of = volumeChecks tc tk clearance reference ++ sliceChecks tc tk clearance ps ts in
+        let number : firstOf checks-of ≡ n = unfold volumeChecks drawingChecks checks surveyChecks tableChecks in stands checks-of _ refl in
+        let other : eqb n 13 ≡ false = ap (λ m. eqb m 13) is ∙ first-unlike 13 (tableChecks tc tk) tt (unfold tableChecks in tt) in
+        rw (number, other, slices-stand, drawing-stands clearance, ne-eqb n 0 some)

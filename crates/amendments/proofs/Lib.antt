@@ -3,3 +3,4 @@ pub mod InForce
 pub mod Working
 pub mod Stray
 pub mod Calls
+pub mod Laws

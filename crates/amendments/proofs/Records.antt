@@ -8,7 +8,7 @@ use lib.ListN.{length, take, drop, length-append, length-drop, take-append-drop,
 use lib.Seq.{length-take-le, take-take, drop-drop, drop-append-add, take-at}
 use Rattle.base.specs.Lists.{collect, count, little, bytes}
 use Rattle.base.specs.Grid.{Place}
-use Rattle.rules.specs.Survey.{recordSize, recordCount, recordBytes, cornerRecord, placeOf}
+use Rattle.rules.specs.Survey.{recordSize, recordBytes, cornerRecord, placeOf}
 use Rattle.rules.specs.Resounding.{placeIn}
 use Rattle.records.proofs.Bytes.{part}
 

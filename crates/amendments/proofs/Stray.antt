@@ -7,8 +7,8 @@ use lib.Dec.{T}
 use Rattle.base.specs.Lists.{any, all}
 use Rattle.base.specs.Grid.{Place, same}
 use Rattle.base.proofs.Tests.{and→, tests-equal}
-use Rattle.base.proofs.Lists.{In, any→in, in→any, all→in}
-use Rattle.base.proofs.Places.{same→, same-refl}
+use Rattle.base.proofs.Lists.{any→in, all→in}
+use Rattle.base.proofs.Places.{same→}
 use Rattle.rules.specs.Survey.{Cell, cellCorners}
 use Rattle.rules.specs.Outputs.{cornersRight}
 use Rattle.rules.specs.Resounding.{recordsOf, placeIn, strayAmendment}

@@ -11,13 +11,13 @@ use lib.Dec.{eqb, ltb}
 use lib.ListN.{length, take, drop, length-drop}
 use lib.Seq.{length-take-le, take-take, take-all, take-length, take-suc, drop-drop, take-at, drop-at, paste, length-paste, take-paste, drop-paste}
 use borrow.Author.Tests.{eq-eqb, ne-eqb, lt-ltb, le-ltb}
-use Rattle.base.specs.Lists.{collect, count}
+use Rattle.base.specs.Lists.{collect}
 use Rattle.base.specs.Grid.{same}
 use Rattle.base.proofs.Tests.{below}
 use Rattle.base.proofs.Below.{get-table, length-table}
 use Rattle.rules.specs.Survey.{recordSize, recordCount, recordBytes, cornerRecord, placeOf}
 use Rattle.rules.specs.Outputs.{rising}
-use Rattle.rules.specs.Resounding.{recordsOf, placeIn, dayIn, overrules, inForce, amended}
+use Rattle.rules.specs.Resounding.{recordsOf, placeIn, dayIn, inForce, amended}
 use Rattle.records.specs.Keys.{keyOf, placesOf, recordAt, Short}
 use Rattle.records.proofs.Keys.{Bytes, record-short, get-place}
 use Rattle.records.proofs.Listed.{listed-is, record-is}
@@ -157,7 +157,8 @@ module _ (tk ta table : List ℕ) (b : Bytes tk) (fits : Bytes ta) (up : rising 
 
 -- ---- after the last: the front of the table is the corner table as amended
 
-pub finished : (tk ta table : List ℕ) (n : ℕ) → recordCount ta ≤ n → length tk % recordSize ≡ 0 → AmendedBy tk ta n table → take (length tk) table ≡ amended tk ta
+pub finished : (tk ta table : List ℕ) (n : ℕ) → recordCount ta ≤ n → length tk % recordSize ≡ 0 → AmendedBy tk ta n table
+    → take (length tk) table ≡ amended tk ta
 finished tk ta table n all-in divides so =
     sym (whole (recordCount tk) 0 front (omega (arith, length-take-le (length tk) table (so .room))))
     ∙ collect-same (recordBytes front) (inForceAt tk ta) (recordCount tk) 0

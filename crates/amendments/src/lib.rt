@@ -6,10 +6,9 @@ ghost use mathlib.Core.List.{_++_};
 ghost use Prim.Native.Nat.{_+_, _%_, _≤_, _<_};
 ghost use lib.ListN.{length, take, drop};
 ghost use Rattle.base.specs.Lists.{any, bytes};
-ghost use Rattle.base.specs.Grid.{same};
 ghost use Rattle.rules.specs.Survey.{recordSize, recordCount, recordBytes};
 ghost use Rattle.rules.specs.Outputs.{cornerLimit, rising, firstOf, tableChecks};
-ghost use Rattle.rules.specs.Resounding.{recordsOf, placeIn, amended, badAmendments, amendmentChecks};
+ghost use Rattle.rules.specs.Resounding.{recordsOf, amended, badAmendments, amendmentChecks};
 ghost use Rattle.records.specs.Keys.{placesOf};
 ghost use Rattle.amendments.specs.Amending.{AmendedBy, unlisted};
 

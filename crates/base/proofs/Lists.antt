@@ -8,7 +8,7 @@ use native.Mathlib.Omega.{arith}
 use lib.Dec.{T}
 use lib.ListN.{length, getD}
 use Rattle.base.specs.Lists.{any, all, keep, distinct, collect, position, count}
-use Rattle.base.proofs.Tests.{and→, or→, or-left, or-right, →true, below}
+use Rattle.base.proofs.Tests.{and→, →and, or→, or-left, or-right, →true, below}
 
 module _ {A : Type 0} where
   -- x is on the list
@@ -53,6 +53,10 @@ module _ {A : Type 0} where
   all→in f [] t x i = absurd i
   all→in f (y ∷ xs) t x (inl p) = subst (λ z. T (f z)) (sym p) (and→ (f y) (all f xs) t .0)
   all→in f (y ∷ xs) t x (inr i) = all→in f xs (and→ (f y) (all f xs) t .1) x i
+
+  pub in→all : (f : A → Bool) (xs : List A) → ((x : A) → In x xs → T (f x)) → T (all f xs)
+  in→all f [] h = tt
+  in→all f (x ∷ xs) h = →and (f x) (all f xs) (h x (inl refl)) (in→all f xs (λ y i. h y (inr i)))
 
   -- ---- elements by position
 

@@ -1,25 +1,23 @@
 -- Check 6: what the look-ups and the marks say is what document 01 asks of the corners.
 use Prim.Native.Nat.{ℕ, _+_, _/_, _^_, _≤_, _<_}
-use mathlib.Core.Path.{_≡_, refl, sym, ap, _∙_, subst}
+use mathlib.Core.Path.{_≡_, refl, sym, ap, _∙_}
 use mathlib.Core.Logic.{_⊎_, inl, inr}
 use mathlib.Core.Bool.{Bool, true, false, _&&_, cond}
 use mathlib.Core.List.{List}
 use native.Mathlib.Omega.{arith}
-use lib.Dec.{T, eqb, eqb→eq, ltb, lt→ltb, ltb→lt}
+use lib.Dec.{T, eqb, ltb}
 use lib.ListN.{length, getD, replicate, length-replicate, getD-replicate}
 use Rattle.base.specs.Lists.{all, any, count}
 use Rattle.base.specs.Grid.{Place, origin, Axis, X, Y, along, same}
-use Rattle.base.proofs.Tests.{tests-equal, →true, eq→eqb}
-use Rattle.base.proofs.Lists.{in-get, position-of}
-use Rattle.base.proofs.Places.{same→, same-refl}
+use Rattle.base.proofs.Tests.{→true}
+use Rattle.base.proofs.Lists.{in-get}
 use Rattle.base.proofs.Octants.{octant→}
-use Rattle.rules.specs.Survey.{recordCount, Cell, entries, cellsOf, cellCorners, cornerRecord, placeOf}
+use Rattle.rules.specs.Survey.{recordCount, Cell, entries, cellsOf, cellCorners, placeOf}
 use Rattle.rules.specs.Outputs.{entriesRight, rising, cornersRight}
 use Rattle.octree.proofs.Queue.{box}
 use Rattle.octree.proofs.Records.{cell-count}
 use Rattle.records.specs.Keys.{keyOf, placesOf, recordAt, Short}
-use Rattle.records.proofs.Keys.{Bytes, nowhere, get-place, length-places}
-use Rattle.records.proofs.Search.{keyAt, keys-rise, is-at}
+use Rattle.records.proofs.Keys.{Bytes, nowhere, length-places}
 use Rattle.records.proofs.Listed.{listed-is, record-is}
 use Rattle.cells.specs.Laid.{octantKey, cellAt, Entered, Laid, keyIn, levelIn}
 use Rattle.cells.proofs.Octants.{octant-key-is}

@@ -1,5 +1,5 @@
-// The refusals of a survey: document 01, "Outputs and refusals", checks 1 to 8 in their order, with 14 and 15 of document 02 after 6. Uses records, amendments, cells
-// and octants.
+// The refusals of a survey: document 01, "Outputs and refusals", checks 1 to 8 in their order, with 14 and 15 of document 02 after 6. Uses records, amendments,
+// cells and octants.
 ghost use mathlib.Core.Path.{_≡_};
 ghost use mathlib.Core.Bool.{true, not};
 ghost use Prim.Native.Nat.{_+_, _*_, _≤_, _<_, _/_};

@@ -1,6 +1,7 @@
 // What is exported to C and Rust: the calls of document 01, with what the requests of document 02 add, thin over the proved ones. A slice passes as a
 // pointer and a length.
 use rules::Answer;
+use rules::AskedEdge;
 use rules::Edge;
 use rules::End;
 use water::Reference;
@@ -8,12 +9,14 @@ ghost use mathlib.Core.Path.{_≡_};
 ghost use mathlib.Core.Bool.{not};
 ghost use lib.Dec.{T};
 ghost use Rattle.base.specs.Grid.{Place};
-ghost use Rattle.rules.specs.Steps.{allTriangles};
-ghost use Rattle.rules.specs.Outputs.{surveyRefusal, surveyOf, pointFloats, enquiry, asked, answered, StaysOn};
+ghost use Rattle.rules.specs.Outputs.{surveyOf, asked, answered, StaysOn};
 ghost use Rattle.rules.specs.Closing.{ClosedIn};
-ghost use Rattle.rules.specs.Water.{sixfold, beyondBox};
-ghost use Rattle.drawing.specs.Draws.{lent, Draws};
-ghost use Rattle.volume.specs.Reckons.{drawnPart, Reckons};
+ghost use Rattle.rules.specs.Water.{beyondBox};
+ghost use Rattle.rules.specs.Resounding.{amended, checkAmended, enquiryAmended, drawAmended, volumeAmended};
+ghost use Rattle.enquiry.specs.Enquiry.{lowerEnd};
+ghost use Rattle.water.specs.Corners.{referencePlace};
+ghost use Rattle.drawing.specs.Draws.{Draws};
+ghost use Rattle.volume.specs.Reckons.{drawnPart, sixfoldFrom, Reckons};
 ghost use Rattle.clearance.specs.Reply.{endNumber, replyOf, told};
 ghost use Rattle.rules.specs.declared.Answer.the-variants.{Found};
 ghost use Rattle.clearance.specs.Counts.{drawnOf, waterOf};
@@ -99,32 +102,31 @@ fn reply_of(a: Answer) -> Reply
     }
 }
 
-// Checks a survey by itself: 0, or the number of the first refusal of 1 to 7 that applies.
+// Checks a survey by itself: 0, or the number of the first refusal of 1 to 6, 14, 15 and 7, in this order, that applies.
 #[no_mangle]
-pub extern "C" fn clearance_check(cells: &[u8], corners: &[u8]) -> u32
-    ensures { λ r. ⌜ r ≡ surveyRefusal (now (cells .entry)) (now (corners .entry)) ⌝ }
+pub extern "C" fn clearance_check(cells: &[u8], corners: &[u8], amendments: &[u8]) -> u32
+    ensures { λ r. ⌜ r ≡ checkAmended (now (cells .entry)) (now (corners .entry)) (now (amendments .entry)) ⌝ }
 {
-    checks::check(cells, corners)
+    checks::check(cells, corners, amendments)
 }
 
-// The edge enquiry, by axis, lower end and length.
+// The edge enquiry.
 #[no_mangle]
 pub extern "C" fn clearance_enquire(
     cells: &[u8],
     corners: &[u8],
+    amendments: &[u8],
     clearance: f32,
-    axis: u32,
-    x: u32,
-    y: u32,
-    z: u32,
-    length: u32,
+    edge: AskedEdge,
 ) -> Reply
-    ensures exact { λ r. ⌜ r ≡ replyOf (enquiry (now (cells .entry)) (now (corners .entry)) clearance axis (record { x = x; y = y; z = z }) length) ⌝ }
-    ensures tells { λ r. ⌜ told r ≡ enquiry (now (cells .entry)) (now (corners .entry)) clearance axis (record { x = x; y = y; z = z }) length ⌝ }
-    ensures on_edge { λ r. ⌜ StaysOn (surveyOf (now (cells .entry)) (now (corners .entry)) clearance) (asked axis (record { x = x; y = y; z = z }) length)
-        (told r) ⌝ }
+    ensures exact { λ r. ⌜ r ≡ replyOf (enquiryAmended (now (cells .entry)) (now (corners .entry)) (now (amendments .entry)) clearance (edge .axis) (lowerEnd edge)
+        (edge .length)) ⌝ }
+    ensures tells { λ r. ⌜ told r ≡ enquiryAmended (now (cells .entry)) (now (corners .entry)) (now (amendments .entry)) clearance (edge .axis) (lowerEnd edge)
+        (edge .length) ⌝ }
+    ensures on_edge { λ r. ⌜ StaysOn (surveyOf (now (cells .entry)) (amended (now (corners .entry)) (now (amendments .entry))) clearance)
+        (asked (edge .axis) (lowerEnd edge) (edge .length)) (told r) ⌝ }
 {
-    reply_of(enquiry::enquire(cells, corners, clearance, axis, x, y, z, length))
+    reply_of(enquiry::enquire(cells, corners, amendments, clearance, edge))
 }
 
 // Draws the surface of a survey at a clearance into the lent slices.
@@ -132,16 +134,17 @@ pub extern "C" fn clearance_enquire(
 pub extern "C" fn clearance_draw(
     cells: &[u8],
     corners: &[u8],
+    amendments: &[u8],
     clearance: f32,
     points: &mut [f32],
     triangles: &mut [u32],
 ) -> Counts
-    ensures exact { λ r. ⌜ Draws (lent (now (cells .entry)) (now (corners .entry)) clearance (now (points .entry)) (now (triangles .entry)))
-        (drawnOf r) (now (points .exit)) (now (triangles .exit)) ⌝ }
-    ensures closes { λ r. ⌜ (r .number ≡ 0 → ClosedIn (now (cells .entry)) (now (corners .entry)) clearance (drawnOf r)
+    ensures exact { λ r. ⌜ Draws (drawAmended (now (cells .entry)) (now (corners .entry)) (now (amendments .entry)) clearance
+        (now (points .entry)) (now (triangles .entry))) (drawnOf r) (now (points .exit)) (now (triangles .exit)) ⌝ }
+    ensures closes { λ r. ⌜ (r .number ≡ 0 → ClosedIn (now (cells .entry)) (amended (now (corners .entry)) (now (amendments .entry))) clearance (drawnOf r)
         (now (points .exit)) (now (triangles .exit))) ⌝ }
 {
-    let d = drawing::draw(cells, corners, clearance, points, triangles);
+    let d = drawing::draw(cells, corners, amendments, clearance, points, triangles);
     Counts {
         number: d.number,
         points: d.points,
@@ -154,23 +157,28 @@ pub extern "C" fn clearance_draw(
 pub extern "C" fn clearance_volume(
     cells: &[u8],
     corners: &[u8],
+    amendments: &[u8],
     clearance: f32,
-    x: u32,
-    y: u32,
-    z: u32,
+    reference: Reference,
     points: &mut [f32],
     triangles: &mut [u32],
 ) -> Water
-    ensures exact { λ r. ⌜ Reckons (lent (now (cells .entry)) (now (corners .entry)) clearance (now (points .entry)) (now (triangles .entry)))
-        (record { x = x; y = y; z = z }) (waterOf r) (now (points .exit)) (now (triangles .exit)) ⌝ }
-    ensures closes { λ r. ⌜ (r .number ≡ 0 → ClosedIn (now (cells .entry)) (now (corners .entry)) clearance (drawnPart (waterOf r))
-        (now (points .exit)) (now (triangles .exit))) ⌝ }
+    ensures exact { λ r. ⌜ Reckons (volumeAmended (now (cells .entry)) (now (corners .entry)) (now (amendments .entry)) clearance (referencePlace reference)
+        (now (points .entry)) (now (triangles .entry))) (waterOf r) (now (points .exit)) (now (triangles .exit)) ⌝ }
+    ensures closes { λ r. ⌜ (r .number ≡ 0 → ClosedIn (now (cells .entry)) (amended (now (corners .entry)) (now (amendments .entry))) clearance
+        (drawnPart (waterOf r)) (now (points .exit)) (now (triangles .exit))) ⌝ }
     ensures anywhere { λ r. ⌜ (r .number ≡ 0 → (q : Place) → T (not (beyondBox q))
-        → r .sixfold ≡ sixfold q (pointFloats (now (cells .entry)) (now (corners .entry)) clearance)
-        (allTriangles (surveyOf (now (cells .entry)) (now (corners .entry)) clearance))) ⌝ }
+        → r .sixfold ≡ sixfoldFrom q (now (cells .entry)) (amended (now (corners .entry)) (now (amendments .entry))) clearance) ⌝ }
 {
-    let reference = Reference { x: x, y: y, z: z };
-    let w = volume::reckon(cells, corners, clearance, reference, points, triangles);
+    let w = volume::reckon(
+        cells,
+        corners,
+        amendments,
+        clearance,
+        reference,
+        points,
+        triangles,
+    );
     Water {
         number: w.number,
         points: w.points,

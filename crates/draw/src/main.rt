@@ -1,5 +1,5 @@
-// The drawing program: reads the files `cells`, `corners` and `clearance` of its working directory, draws with room for 2,048 points and 4,096
-// triangles, and prints the listing. Uses drawing, records and text.
+// The drawing program: reads the files `cells`, `corners`, `amendments` and `clearance` of its working directory, draws with room for 2,048 points and 4,096
+// triangles, and prints the listing. A missing file counts as empty. Uses drawing, records and text.
 use libc::STDOUT_FILENO;
 ghost use mathlib.Core.Path.{_≡_};
 ghost use Prim.Native.Nat.{_≤_};
@@ -17,14 +17,22 @@ fn clearance_of(bytes: &[u8]) -> f32
     records::float_of(records::read32(bytes, 0))
 }
 
-// What is printed of a survey at a clearance, written to the front of a slice; where it ends.
-fn list(cells: &[u8], corners: &[u8], clearance: f32, line: &mut [u8]) -> usize
+// What is printed of a survey, as amended, at a clearance, written to the front of a slice; where it ends.
+fn list(cells: &[u8], corners: &[u8], amendments: &[u8], clearance: f32, line: &mut [u8]) -> usize
     requires { ⌜ length (now line) ≡ 202774 ⌝ }
-    ensures { λ r. ⌜ Wrote (printed (now (cells .entry)) (now (corners .entry)) clearance) 202774 0 (now (line .entry)) (now (line .exit)) r ⌝ }
+    ensures { λ r. ⌜ Wrote (printed (now (cells .entry)) (now (corners .entry)) (now (amendments .entry)) clearance) 202774 0
+        (now (line .entry)) (now (line .exit)) r ⌝ }
 {
     let mut points = [0f32; 6144];
     let mut triangles = [0u32; 12288];
-    let d = drawing::draw(cells, corners, clearance, &mut points, &mut triangles);
+    let d = drawing::draw(
+        cells,
+        corners,
+        amendments,
+        clearance,
+        &mut points,
+        &mut triangles,
+    );
     text::put_listing(line, d, &points, &triangles)
 }
 
@@ -45,18 +53,25 @@ fn load(path: &[u8], buf: &mut [u8]) -> usize
 }
 
 // Draws what the files hold and prints it.
-fn show(cells: &[u8], corners: &[u8], clearance: f32) {
+fn show(cells: &[u8], corners: &[u8], amendments: &[u8], clearance: f32) {
     let mut line = [0u8; 202774];
-    let end = list(cells, corners, clearance, &mut line);
+    let end = list(cells, corners, amendments, clearance, &mut line);
     io::write_all(STDOUT_FILENO, &line[..end]);
 }
 
 fn main() {
     let mut cells = [0u8; 8197];
     let mut corners = [0u8; 58465];
+    let mut amendments = [0u8; 12001];
     let mut bytes = [0u8; 5];
     let n = load(b"cells", &mut cells);
     let k = load(b"corners", &mut corners);
+    let a = load(b"amendments", &mut amendments);
     let m = load(b"clearance", &mut bytes);
-    show(&cells[..n], &corners[..k], clearance_of(&bytes[..m]));
+    show(
+        &cells[..n],
+        &corners[..k],
+        &amendments[..a],
+        clearance_of(&bytes[..m]),
+    );
 }

@@ -190,7 +190,15 @@ fn draw_amended(
         return result(number, 0, 0);
     }
     let n = corners.len();
-    draw_in_force(cells, &table[..n], clearance, laid, octants, points, triangles)
+    draw_in_force(
+        cells,
+        &table[..n],
+        clearance,
+        laid,
+        octants,
+        points,
+        triangles,
+    )
 }
 
 // Draws the surface of a survey, as amended, at a clearance: document 01, "Outputs and refusals", and document 02, requests 3 and 6. For every input, the result
@@ -216,10 +224,23 @@ pub fn draw(
     }
     if amendments.len() == 0 {
         return draw_in_force(
-            cells, corners, clearance, &laid, &octants, points, triangles,
+            cells,
+            corners,
+            clearance,
+            &laid,
+            &octants,
+            points,
+            triangles,
         );
     }
     draw_amended(
-        cells, corners, amendments, clearance, &laid, &octants, points, triangles,
+        cells,
+        corners,
+        amendments,
+        clearance,
+        &laid,
+        &octants,
+        points,
+        triangles,
     )
 }

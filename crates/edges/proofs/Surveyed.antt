@@ -1,14 +1,13 @@
 -- What a survey without refusal gives the code: sizes of the tables, rising keys, and small keys of the corner records.
-use Prim.Native.Nat.{ℕ, _/_, _%_, _^_, _≤_, _<_}
-use mathlib.Core.Path.{_≡_, sym, ap, _∙_, subst}
-use mathlib.Core.Bool.{Bool, true, false, not, _||_}
+use Prim.Native.Nat.{ℕ, _/_, _^_, _≤_, _<_}
+use mathlib.Core.Path.{_≡_, sym, ap, _∙_}
+use mathlib.Core.Bool.{true, false}
 use mathlib.Core.List.{List, []}
 use native.Mathlib.Omega.{arith}
-use lib.Dec.{T, eqb, ltb}
+use lib.Dec.{T}
 use lib.ListN.{length, drop}
 use lib.Seq.{drop-length}
 use lib.Ieee.{nan}
-use borrow.Author.Tests.{ltb-false}
 use Rattle.base.specs.Grid.{Place, origin, Axis, X, Y, Z, along, move, same}
 use Rattle.base.proofs.Tests.{true→}
 use Rattle.base.specs.Lists.{any}

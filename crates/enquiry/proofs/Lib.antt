@@ -1,3 +1,4 @@
 pub mod Enquiring
 pub mod Staying
 pub mod StepByAnswers
+pub mod Amended

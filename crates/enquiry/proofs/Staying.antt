@@ -13,7 +13,7 @@ use Rattle.rules.specs.Survey.{cellsOf, cornersOf, wetAt, Survey}
 use Rattle.rules.specs.Edges.{CellEdge, edge, isEdge, odd, numberOf, carrier, spotOn, OnEdge}
 use Rattle.rules.specs.WhichEnd.{wetEnd}
 use Rattle.rules.specs.declared.End.{End}
-use Rattle.rules.specs.Outputs.{firstOf, checks, accepted, surveyOf, levelOf, asked, Enquired, refused, even, crossing, enquiry, StaysOn}
+use Rattle.rules.specs.Outputs.{firstOf, checks, accepted, surveyOf, levelOf, asked, refused, even, crossing, enquiry, StaysOn}
 use Rattle.octree.specs.Lawful.{Lawful}
 use Rattle.octree.proofs.Accepted.{lawful}
 use Rattle.octree.proofs.Aligned.{edge-in-box}
@@ -70,8 +70,3 @@ module _ (tc tk : List ℕ) (clearance : Float) where
             let (ok, t) = enquiry-passed tc tk clearance axis p size (eqb→eq number 0 (→true h)) in
             let (whole, part) = odd-stays ok (axisOf axis) p (levelOf size) t (→true k) in
             record { on-asked = whole; on-carrier = part }
-
-    -- both promises of the enquiry, of an answer that equals the rules'
-    pub both : (r : Enquired) → r ≡ enquiry tc tk clearance axis p size →
-        (r ≡ enquiry tc tk clearance axis p size) × StaysOn (surveyOf tc tk clearance) (asked axis p size) r
-    both r h = (h, subst (StaysOn s (asked axis p size)) (sym h) enquiry-stays)

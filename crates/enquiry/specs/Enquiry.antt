@@ -8,6 +8,11 @@ use Rattle.rules.specs.Survey.{cornersOf}
 use Rattle.rules.specs.Edges.{edge, isEdge, odd, numberOf, carrier, spotOn}
 use Rattle.rules.specs.WhichEnd.{wetEnd}
 use Rattle.rules.specs.Outputs.{surveyOf, Enquired, refused, even, crossing}
+use Rattle.rules.specs.declared.AskedEdge.{AskedEdge}
+
+-- the lower end of an edge asked about
+abbrev pub lowerEnd : AskedEdge → Place
+lowerEnd e = record { x = e .x; y = e .y; z = e .z }
 
 -- even, or crossing with the point's number, its place and the wet end; refusal 11 where no cell has the edge
 unfoldable pub edgeAnswer : List ℕ → List ℕ → Float → Axis → Place → ℕ → Enquired

@@ -12,7 +12,8 @@ use Rattle.base.specs.Lists.{any, all}
 use Rattle.base.specs.Grid.{Place, same, octants}
 use Rattle.rules.specs.Survey.{recordSize, Cell, cell, size, entries, cellsOf, cellCorners, cornersOf, placeOf}
 use Rattle.rules.specs.OpenAtBox.{openAtBox}
-use Rattle.rules.specs.Outputs.{cornerLimit, badTable, entriesRight, rising, cornersRight, inRange, firstOf, tableChecks, surveyChecks, surveyRefusal, checks, accepted}
+use Rattle.rules.specs.Outputs.{cornerLimit, badTable, entriesRight, rising, cornersRight, inRange, firstOf, tableChecks, soundingCheck, surveyChecks}
+use Rattle.rules.specs.Outputs.{surveyRefusal, checks, accepted}
 use Rattle.rules.specs.Outputs.{drawingChecks, drawable, surveyOf}
 use Rattle.rules.specs.declared.Corner.{Corner}
 use Rattle.base.proofs.Tests.{and→, either, not-both, eq→eqb, false→, →true, →false}
@@ -134,12 +135,9 @@ tables-checked tc tk h =
 
 -- where a check of the survey by itself gives 0, checks 1 to 6 pass the tables, and every sounding is in range
 module _ (tc tk : List ℕ) (h : surveyRefusal tc tk ≡ 0) where
-  abbrev seven : ℕ × Bool
-  seven = (7, any (λ k. not (inRange (k .sounding))) (cornersOf tk))
-
-  none-refused : (firstOf (tableChecks tc tk) ≡ 0) × (firstOf (seven ∷ []) ≡ 0)
+  none-refused : (firstOf (tableChecks tc tk) ≡ 0) × (firstOf (soundingCheck tk ∷ []) ≡ 0)
   unfolding surveyRefusal surveyChecks
-  none-refused = first-none (tableChecks tc tk) (seven ∷ []) (unfold tableChecks in tt) h
+  none-refused = first-none (tableChecks tc tk) (soundingCheck tk ∷ []) (unfold tableChecks in tt) h
 
   pub tables-pass : firstOf (tableChecks tc tk) ≡ 0
   tables-pass = none-refused .0
@@ -149,7 +147,7 @@ module _ (tc tk : List ℕ) (h : surveyRefusal tc tk ≡ 0) where
 
   pub soundings-checked : (k : Corner) → In k (cornersOf tk) → T (inRange (k .sounding))
   soundings-checked =
-      none-of (λ (k : Corner). inRange (k .sounding)) (cornersOf tk) (none-applies (seven ∷ []) tt (none-refused .1) seven (inl refl))
+      none-of (λ (k : Corner). inRange (k .sounding)) (cornersOf tk) (none-applies (soundingCheck tk ∷ []) tt (none-refused .1) (soundingCheck tk) (inl refl))
 
 -- accepted: no refusal of the survey by itself, and the clearance in range
 pub accepted→ : (tc tk : List ℕ) (clearance : Float) → T (accepted tc tk clearance) → (surveyRefusal tc tk ≡ 0) × T (inRange clearance)
@@ -164,7 +162,8 @@ pub drawable→ : (tc tk : List ℕ) (clearance : Float) → T (drawable tc tk c
 unfolding drawable drawingChecks accepted
 drawable→ tc tk clearance t =
     let twelve : ℕ × Bool = (12, openAtBox tk clearance) in
-    let none = first-none (checks tc tk clearance) (twelve ∷ []) (unfold checks surveyChecks tableChecks in tt) (eqb→eq (firstOf (drawingChecks tc tk clearance)) 0 t) in
+    let none = first-none (checks tc tk clearance) (twelve ∷ []) (unfold checks surveyChecks tableChecks in tt)
+    (eqb→eq (firstOf (drawingChecks tc tk clearance)) 0 t) in
     (eq→eqb (firstOf (checks tc tk clearance)) 0 (none .0), none-applies (twelve ∷ []) tt (none .1) twelve (inl refl))
 
 -- ---- the laws of an accepted survey

@@ -5,3 +5,4 @@ pub mod WhichEnd
 pub mod Awash
 pub mod OpenAtBox
 pub mod Volumes
+pub mod Resounding

@@ -77,10 +77,14 @@ tableChecks tc tk =
     (5, not (rising places)) ∷
     (6, not (cornersRight cells places)) ∷ []
 
+-- the check of the soundings
+abbrev pub soundingCheck : List ℕ → ℕ × Bool
+soundingCheck tk = (7, any (λ k. not (inRange (k .sounding))) (cornersOf tk))
+
 -- the checks of the survey by itself
 unfoldable pub surveyChecks : List ℕ → List ℕ → List (ℕ × Bool)
 unfolding tableChecks cornersOf inRange
-surveyChecks tc tk = tableChecks tc tk ++ (7, any (λ k. not (inRange (k .sounding))) (cornersOf tk)) ∷ []
+surveyChecks tc tk = tableChecks tc tk ++ soundingCheck tk ∷ []
 
 -- a check of the survey by itself gives 0 or 1 to 7
 unfoldable pub surveyRefusal : List ℕ → List ℕ → ℕ

@@ -1,5 +1,5 @@
--- Document 02, request 6, "Resounding a few corners": an amendment table lent beside the corner table, the record in force at each corner, checks 14 and 15, and
--- each call of the survey so amended. Records have 12 bytes: Survey.antt.
+-- Document 02, request 6, "Resounding a few corners": an amendment table lent beside the corner table, the record in force at each corner, checks 14 and 15,
+-- and each call of the survey so amended. That records have 12 bytes is in Survey.antt.
 use Prim.Native.Nat.{ℕ, _%_}
 use mathlib.Core.Path.{_≡_}
 use mathlib.Core.Bool.{Bool, not, _&&_, _||_, cond}
@@ -9,10 +9,12 @@ use lib.ListN.{length}
 use lib.IntN.{pos}
 use lib.Ieee.{Float}
 use Rattle.base.specs.Lists.{any, all, keep, collect, count, little, bytes}
-use Rattle.base.specs.Grid.{Place, same}
-use Rattle.rules.specs.Survey.{Cell, cellsOf, cellCorners, recordSize, recordCount, recordBytes, cornerRecord, cornersOf, placeOf}
+use Rattle.base.specs.Grid.{Place, axisOf, same}
+use Rattle.rules.specs.Survey.{Cell, cellsOf, cellCorners, recordSize, recordCount, recordBytes, cornerRecord, placeOf}
+use Rattle.rules.specs.Edges.{isEdge}
 use Rattle.rules.specs.OpenAtBox.{openAtBox}
-use Rattle.rules.specs.Outputs.{inRange, firstOf, tableChecks, surveyRefusal, sliceChecks, Drawing, draw, Enquired, refused, enquiry}
+use Rattle.rules.specs.Outputs.{inRange, firstOf, tableChecks, soundingCheck, surveyRefusal, sliceChecks, Drawing, draw, levelOf}
+use Rattle.rules.specs.Outputs.{Enquired, refused, even, crossing, enquiry}
 use Rattle.rules.specs.Water.{beyondBox, Reckoning, volume}
 
 -- ---- the record in force
@@ -71,7 +73,6 @@ amendmentChecks tc tk ta = tableChecks tc tk ++ (14, badAmendments ta) ∷ (15, 
 -- "Drawing, enquiry and volume are those of the survey so amended": refused by the first of these checks that applies, else the call with the corner table as
 -- amended. (Of that table checks 1 to 6 find nothing to refuse either, so that 7 comes next: `InOrder`.)
 abbrev pub asAmended : {A : Type 0} → List ℕ → List ℕ → List ℕ → (ℕ → A) → (List ℕ → A) → A
-unfolding amendmentChecks amended
 asAmended tc tk ta refusal call =
     let number = firstOf (amendmentChecks tc tk ta) in
     let answer = call (amended tk ta) in
@@ -84,7 +85,7 @@ checkAmended tc tk ta = asAmended tc tk ta (λ n. n) (surveyRefusal tc)
 
 unfoldable pub enquiryAmended : List ℕ → List ℕ → List ℕ → Float → ℕ → Place → ℕ → Enquired
 unfolding amendmentChecks amended enquiry
-enquiryAmended tc tk ta clearance axis p length = asAmended tc tk ta refused (λ t. enquiry tc t clearance axis p length)
+enquiryAmended tc tk ta clearance axis p size = asAmended tc tk ta refused (λ t. enquiry tc t clearance axis p size)
 
 -- a refused drawing: "counts 0 and 0", and the slices as they were
 abbrev pub undrawn : ℕ → List Float → List ℕ → Drawing
@@ -94,6 +95,7 @@ unfoldable pub drawAmended : List ℕ → List ℕ → List ℕ → Float → Li
 unfolding amendmentChecks amended draw
 drawAmended tc tk ta clearance ps ts = asAmended tc tk ta (λ n. undrawn n ps ts) (λ t. draw tc t clearance ps ts)
 
+-- the same of the call for the volume, which is then zero
 abbrev pub unreckoned : ℕ → List Float → List ℕ → Reckoning
 unreckoned number ps ts = record { result = record { number = number; points = 0; triangles = 0; sixfold = pos 0 }; points = ps; triangles = ts }
 
@@ -117,22 +119,33 @@ unfoldable pub HighestHolds : Type 0
 unfolding placeIn inForce
 HighestHolds = (r : List ℕ) (amendments : List (List ℕ)) → Holds (r ∷ keep (λ a. same (placeIn r) (placeIn a)) amendments) (inForce r amendments)
 
--- the checks of each call in their order, of the table as amended
+-- The checks of each call in their order: 1 to 6 of the tables as lent, 14, 15, and all others of the table as amended. "Refusal 7 looks only at soundings in
+-- force."
 unfoldable pub checkOrder : List ℕ → List ℕ → List ℕ → List (ℕ × Bool)
-unfolding amendmentChecks amended cornersOf inRange
-checkOrder tc tk ta = amendmentChecks tc tk ta ++ (7, any (λ k. not (inRange (k .sounding))) (cornersOf (amended tk ta))) ∷ []
+unfolding amendmentChecks amended
+checkOrder tc tk ta = amendmentChecks tc tk ta ++ soundingCheck (amended tk ta) ∷ []
 
 unfoldable pub drawingOrder : List ℕ → List ℕ → List ℕ → Float → List (ℕ × Bool)
 unfolding checkOrder inRange openAtBox amended
 drawingOrder tc tk ta clearance = checkOrder tc tk ta ++ (8, not (inRange clearance)) ∷ (12, openAtBox (amended tk ta) clearance) ∷ []
 
+-- the number in an answer of the enquiry: 0 where it is not refused
+abbrev pub numberIn : Enquired → ℕ
+numberIn (refused n) = n
+numberIn even = 0
+numberIn (crossing n place end) = 0
+
 pub record InOrder (tc tk ta : List ℕ) : Type 0 where
   pub check : checkAmended tc tk ta ≡ firstOf (checkOrder tc tk ta)
+  pub answer : (clearance : Float) (axis : ℕ) (p : Place) (size : ℕ) → numberIn (enquiryAmended tc tk ta clearance axis p size)
+      ≡ firstOf (checkOrder tc tk ta ++ (8, not (inRange clearance)) ∷ (11, not (ltb axis 3 && isEdge (cellsOf tc) (axisOf axis) p (levelOf size))) ∷ [])
   pub drawing : (clearance : Float) (ps : List Float) (ts : List ℕ)
       → drawAmended tc tk ta clearance ps ts .result .number ≡ firstOf (drawingOrder tc tk ta clearance ++ sliceChecks tc (amended tk ta) clearance ps ts)
   pub reckoning : (clearance : Float) (reference : Place) (ps : List Float) (ts : List ℕ)
       → volumeAmended tc tk ta clearance reference ps ts .result .number
       ≡ firstOf (drawingOrder tc tk ta clearance ++ (13, beyondBox reference) ∷ sliceChecks tc (amended tk ta) clearance ps ts)
+
+-- ---- what follows besides
 
 -- every call is as without amendments
 pub record AsWithout (tc tk ta : List ℕ) : Type 0 where

@@ -15,6 +15,16 @@ pub struct Leaf {
     pub corners: [Corner; 8],
 }
 
+// An edge to ask about: its axis (0 to 2), its lower end and its length.
+#[repr(C)]
+pub struct AskedEdge {
+    pub axis: u32,
+    pub x: u32,
+    pub y: u32,
+    pub z: u32,
+    pub length: u32,
+}
+
 // An end of an edge. Document 02, request 1.
 pub enum End {
     Lower,

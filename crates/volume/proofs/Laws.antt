@@ -18,11 +18,12 @@ use lib.ListN.{length, getD, take, length-take}
 use lib.Ieee.{Float, nan}
 use Rattle.base.specs.Lists.{all}
 use Rattle.base.specs.Grid.{Place}
-use Rattle.base.proofs.Lists.{In, in-get}
+use Rattle.base.proofs.Lists.{In, in-get, in→all}
 use Rattle.base.proofs.Tests.{→and, eq→eqb, true→, false→, →true}
 use Rattle.rules.specs.Edges.{pointEdges}
 use Rattle.rules.specs.Steps.{Triangle, allTriangles}
-use Rattle.rules.specs.Outputs.{numbers, firstOf, tableChecks, surveyChecks, checks, accepted, drawingChecks, drawable, surveyOf, pointFloats, sliceChecks, draw}
+use Rattle.rules.specs.Outputs.{numbers, firstOf, tableChecks, surveyChecks, checks, accepted, drawingChecks, drawable, surveyOf, pointFloats}
+use Rattle.rules.specs.Outputs.{sliceChecks, draw}
 use Rattle.rules.specs.Water.{sixfoldOf, sixfold, beyondBox, volumeChecks, volume}
 use Rattle.rules.specs.Water.{AnyReference, SameAnswer, AllTakenDown, NumbersBelow, FewTriangles, NothingLost}
 use Rattle.octree.proofs.Accepted.{first-none}
@@ -41,10 +42,6 @@ module _ {A : Type 0} where
   in-take (suc k) [] x i = absurd i
   in-take (suc k) (y ∷ ys) x (inl e) = inl e
   in-take (suc k) (y ∷ ys) x (inr i) = inr (in-take k ys x i)
-
-  in-all : (f : A → Bool) (xs : List A) → ((x : A) → In x xs → T (f x)) → T (all f xs)
-  in-all f [] h = tt
-  in-all f (x ∷ xs) h = →and (f x) (all f xs) (h x (inl refl)) (in-all f xs (λ y i. h y (inr i)))
 
 pub all-taken-down : AllTakenDown
 unfolding AllTakenDown
@@ -101,7 +98,7 @@ unfolding NumbersBelow
 numbers-below tc tk clearance ok =
     let s = surveyOf tc tk clearance in
     let n = length (pointEdges s) in
-    in-all (λ t. all (λ p. ltb p n) (numbers t)) (allTriangles s)
+    in→all (λ t. all (λ p. ltb p n) (numbers t)) (allTriangles s)
     (λ t i. let (a, b, c) = all-below tc tk clearance ok t i in
     →and (ltb (t .0) n) (ltb (t .1) n && (ltb (t .2) n && true)) (lt→ltb (t .0) n a)
     (→and (ltb (t .1) n) (ltb (t .2) n && true) (lt→ltb (t .1) n b) (→and (ltb (t .2) n) true (lt→ltb (t .2) n c) tt)))
@@ -121,7 +118,7 @@ nothing-lost tc tk clearance ok reference box =
     triangle-size reference points box (t .0) (t .1) (t .2) (floats-placed tc tk clearance ok (t .0) a) (floats-placed tc tk clearance ok (t .1) b)
     (floats-placed tc tk clearance ok (t .2) c) in
     record {
-      each = in-all (λ t. leb (natAbs (sixfoldOf reference points t)) (6 * 2 ^ 42)) triangles
+      each = in→all (λ t. leb (natAbs (sixfoldOf reference points t)) (6 * 2 ^ 42)) triangles
           (λ t i. le→leb (natAbs (sixfoldOf reference points t)) (6 * 2 ^ 42) (one t i));
       sums = λ k.
           let first = sixfold-size reference points (6 * 2 ^ 42) (take k triangles) (λ t i. one t (in-take k triangles t i)) in

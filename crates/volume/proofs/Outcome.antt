@@ -16,7 +16,7 @@ use Rattle.rules.specs.Water.{sixfold, beyondBox, volumeChecks, Reckoning, volu
 use Rattle.rules.specs.declared.Drawn.{Drawn}
 use Rattle.rules.specs.declared.Water.{Water}
 use Rattle.octree.proofs.Accepted.{first-append, first-none, first-unlike, refused-before, refused-last, refused-never}
-use Rattle.drawing.specs.Draws.{lent, Draws}
+use Rattle.drawing.specs.Draws.{Draws}
 use Rattle.drawing.proofs.Outcome.{refused}
 use Rattle.volume.specs.Reckons.{Reckons}
 
@@ -112,8 +112,8 @@ module _ (tc tk : List ℕ) (clearance : Float) (reference : Place) (ps : List F
         ∙ ap (λ (b : Bool). given d (d .result .number) b (eqb (d .result .number) 0)) never
 
     -- what was drawn, with the volume that goes with its number
-    pub reckoned : (r : Drawn) (points : List Float) (triangles : List ℕ) (v : ℤ) (none : Bool) → Draws (lent tc tk clearance ps ts) r points triangles
-        → eqb (r .number) 0 ≡ none → v ≡ cond none total (pos 0) → Reckons (lent tc tk clearance ps ts) reference (withVolume r v) points triangles
+    pub reckoned : (r : Drawn) (points : List Float) (triangles : List ℕ) (v : ℤ) (none : Bool) → Draws (draw tc tk clearance ps ts) r points triangles
+        → eqb (r .number) 0 ≡ none → v ≡ cond none total (pos 0) → Reckons (volume tc tk clearance reference ps ts) (withVolume r v) points triangles
     reckoned r points triangles v none drew zero is =
         let d = draw tc tk clearance ps ts in
         let none-is : eqb (d .result .number) 0 ≡ none = sym (ap (λ (r : Drawn). eqb (r .number) 0) (drew .result-is)) ∙ zero in
@@ -135,7 +135,7 @@ module _ (tc tk : List ℕ) (clearance : Float) (reference : Place) (ps : List F
     nothing = record { result = record { number = n; points = 0; triangles = 0; sixfold = pos 0 }; points = ps; triangles = ts }
 
     -- a check before 13: as a drawing that is refused
-    earlier : (b : Bool) → Draws (lent tc tk clearance ps ts) (record { number = n; points = 0; triangles = 0 }) ps ts
+    earlier : (b : Bool) → Draws (draw tc tk clearance ps ts) (record { number = n; points = 0; triangles = 0 }) ps ts
         → given (draw tc tk clearance ps ts) n b false ≡ nothing
     earlier true drew = refl
     earlier false drew = sym (λ i. record {
@@ -166,7 +166,7 @@ module _ (tc tk : List ℕ) (clearance : Float) (reference : Place) (ps : List F
             unfold volumeChecks in
             first-append (drawingChecks tc tk clearance) ((13, beyondBox reference) ∷ []) (unfold drawingChecks checks surveyChecks tableChecks in tt)
 
-    pub turned-away : Reckons (lent tc tk clearance ps ts) reference (record { number = n; points = 0; triangles = 0; sixfold = pos 0 }) ps ts
+    pub turned-away : Reckons (volume tc tk clearance reference ps ts) (record { number = n; points = 0; triangles = 0; sixfold = pos 0 }) ps ts
     turned-away = record {
       result-is = sym (ap (λ (w : Reckoning). w .result) nothing-given);
       points-are = sym (ap (λ (w : Reckoning). w .points) nothing-given);

@@ -14,17 +14,17 @@ use Rattle.base.proofs.Tests.{→false}
 use Rattle.rules.specs.Edges.{pointEdges}
 use Rattle.rules.specs.Steps.{allTriangles}
 use Rattle.rules.specs.Outputs.{firstOf, accepted, drawable, surveyOf, pointFloats, Drawing, draw}
-use Rattle.rules.specs.Closing.{trianglesIn, ClosedIn}
-use Rattle.rules.specs.Water.{sixfold, beyondBox, volumeChecks, AnyReference}
+use Rattle.rules.specs.Closing.{trianglesIn}
+use Rattle.rules.specs.Water.{sixfold, beyondBox, volumeChecks, volume, AnyReference}
 use Rattle.rules.specs.declared.Drawn.{Drawn}
 use Rattle.rules.specs.declared.Water.{Water}
 use Rattle.octree.proofs.Accepted.{drawable→}
 use Rattle.closing.proofs.Closing.{closes}
 use Rattle.water.specs.Corners.{Summable}
-use Rattle.drawing.specs.Draws.{lent, Draws}
+use Rattle.drawing.specs.Draws.{Draws}
 use Rattle.drawing.proofs.Drawn.{whole, drawn-is, drawn-fits}
 use Rattle.drawing.proofs.Outcome.{drawn-closed}
-use Rattle.volume.specs.Reckons.{drawnPart, Reckons}
+use Rattle.volume.specs.Reckons.{sixfoldFrom, Reckons, Sound}
 use Rattle.volume.proofs.Outcome.{withVolume, total, inside, reckoned, turned-away}
 use Rattle.volume.proofs.References.{same-sum}
 use Rattle.volume.proofs.Slices.{all-below, summable, slices-sum}
@@ -40,14 +40,12 @@ any-reference tc tk clearance ok p q _ _ =
 -- what the call promises of its result and the slices
 abbrev pub Promised : List ℕ → List ℕ → Float → List Float → List ℕ → Place → List Float → List ℕ → Water → Type 0
 Promised tc tk clearance ps ts reference points triangles w =
-    Reckons (lent tc tk clearance ps ts) reference w points triangles × (
-    (w .number ≡ 0 → ClosedIn tc tk clearance (drawnPart w) points triangles) ×
-    (w .number ≡ 0 → (q : Place) → T (not (beyondBox q)) → w .sixfold ≡ sixfold q (pointFloats tc tk clearance) (allTriangles (surveyOf tc tk clearance))))
+    Reckons (volume tc tk clearance reference ps ts) w points triangles × Sound tc tk clearance w points triangles
 
 -- ---- what was drawn
 
 module _ (tc tk : List ℕ) (clearance : Float) (ps : List Float) (ts : List ℕ) (r : Drawn) (points : List Float) (triangles : List ℕ)
-    (drew : Draws (lent tc tk clearance ps ts) r points triangles) (zero : r .number ≡ 0) where
+    (drew : Draws (draw tc tk clearance ps ts) r points triangles) (zero : r .number ≡ 0) where
   none : draw tc tk clearance ps ts .result .number ≡ 0
   none = sym (ap (λ (r : Drawn). r .number) (drew .result-is)) ∙ zero
 
@@ -71,7 +69,7 @@ module _ (tc tk : List ℕ) (clearance : Float) (ps : List Float) (ts : List ℕ
         (sym as-whole) (unfold whole in slices-sum tc tk clearance ok ps ts reference)
 
     from-any : (q : Place) → T (not (beyondBox reference)) → T (not (beyondBox q))
-        → v ≡ sixfold q (pointFloats tc tk clearance) (allTriangles (surveyOf tc tk clearance))
+        → v ≡ sixfoldFrom q tc tk clearance
     from-any q own box = total-is ∙ unfold AnyReference in any-reference tc tk clearance can-draw reference q own box
 
     pub drawn-promised : (n : ℕ) → n ≡ firstOf (volumeChecks tc tk clearance reference) → n ≡ 0
@@ -86,7 +84,7 @@ module _ (tc tk : List ℕ) (clearance : Float) (ps : List Float) (ts : List ℕ
 -- the slices are too short
 pub short-promised : (tc tk : List ℕ) (clearance : Float) (ps : List Float) (ts : List ℕ) (reference : Place) (n : ℕ)
     → n ≡ firstOf (volumeChecks tc tk clearance reference) → n ≡ 0 → (r : Drawn) (points : List Float) (triangles : List ℕ)
-    → Draws (lent tc tk clearance ps ts) r points triangles → (r .number ≡ 0 → ⊥)
+    → Draws (draw tc tk clearance ps ts) r points triangles → (r .number ≡ 0 → ⊥)
     → Promised tc tk clearance ps ts reference points triangles (withVolume r (pos 0))
 short-promised tc tk clearance ps ts reference n is zero r points triangles drew some =
     let reckons = reckoned tc tk clearance reference ps ts n is zero r points triangles (pos 0) false drew (ne-eqb (r .number) 0 some) refl in

@@ -10,6 +10,7 @@ ghost use Rattle.rules.specs.Water.{sixteenths, determinant, sixfoldOf, sixfold
 ghost use Rattle.water.specs.Corners.{referencePlace, Near, part, taken, Placed, triangleAt, Held, Summable};
 
 // The point of the box, in whole units, that corners are taken from.
+#[repr(C)]
 pub struct Reference {
     pub x: u32,
     pub y: u32,

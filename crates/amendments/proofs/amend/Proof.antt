@@ -33,7 +33,8 @@ inside r =
     omega (arith, length-table (recordBytes ta) (recordCount ta), r .before .before .before .loop .inv .1)
 
 nth : (r : tie.After-resound Inv-loop μ-loop)
-    → unlisted (at-start r .args .corners .now) (getD (recordsOf (at-start r .args .amendments .now)) (r .before .before .before .loop .n) []) ≡ r .resound .result
+    → let a = at-start r .args in
+    unlisted (a .corners .now) (getD (recordsOf (a .amendments .now)) (r .before .before .before .loop .n) []) ≡ r .resound .result
 nth r =
     let a = at-start r .args in
     let n = r .before .before .before .loop .n in

@@ -1,12 +1,12 @@
 -- `amendments::resound` meets its contract: the amendment is looked up, and written over the record at its corner unless it is older.
-use mathlib.Core.Path.{_≡_, refl, sym, ap, _∙_}
+use mathlib.Core.Path.{_≡_, sym, ap, _∙_}
 use mathlib.Core.Bool.{false, not, true≢false}
 use lib.Dec.{ltb}
 use native.Mathlib.Omega.{arith}
 use borrow.Author.Tests.{lt-ltb, le-ltb}
 use Rattle.rules.specs.Survey.{recordCount, recordBytes, cornerRecord, placeOf}
 use Rattle.records.specs.Keys.{keyOf, recordAt}
-use Rattle.amendments.specs.Amending.{unlisted, AmendedBy}
+use Rattle.amendments.specs.Amending.{unlisted}
 use Rattle.amendments.proofs.Working.{unlisted-is, older, newer}
 use borrow.Author.Needs.{needs}
 use Rattle.amendments.proofs.resound.Statement.{statement}
@@ -37,7 +37,7 @@ listed-by f =
     unlisted-is (s .args .corners .now) (s .args .amendments .now) (s .args .table .now) (f .before .before .before .before .shared-slice-known .given)
     (f .before .before .before .shared-slice-known2 .given) (s .pre .0) (s .args .n) (s .pre .1 .0) (f .find .result) (looked-up f)
 
-at-corner : (e : tie.Else1) → false ≡ unlisted (start (e .before) .args .corners .now) (recordBytes (start (e .before) .args .amendments .now) (start (e .before) .args .n))
+at-corner : (e : tie.Else1) → let a = start (e .before) .args in false ≡ unlisted (a .corners .now) (recordBytes (a .amendments .now) (a .n))
 at-corner e =
     let f = e .before in
     sym (listed-by f ∙ ap not (lt-ltb (f .find .result) (recordCount (start f .args .corners .now)) (omega (arith, e .if1 .left))))

@@ -1,63 +1,48 @@
--- `volume::reckon` meets its contract: refused before the slices are looked at, refused for them, or drawn and summed over.
-use mathlib.Core.Path.{sym, _∙_, subst}
-use Rattle.base.proofs.Tests.{→false}
+-- `volume::reckon` meets its contract: checks 1 to 6 with tables of its own, and the rest with amendments or without.
+use mathlib.Core.Path.{sym, subst}
+use Rattle.amendments.proofs.Calls.{empty-is}
 use Rattle.water.specs.Corners.{referencePlace}
-use Rattle.water.proofs.Signed.{kept}
-use Rattle.volume.proofs.Outcome.{can-draw, inside}
-use Rattle.volume.proofs.Reckoned.{Promised, can-sum, drawn-promised, short-promised, refused-promised}
+use Rattle.volume.proofs.Amended.{PromisedAmended, refused-first, without}
 use borrow.Author.Needs.{needs}
 use Rattle.volume.proofs.reckon.Statement.{statement}
 use Rattle.volume.proofs.reckon.Tie as tie
 
-abbrev start : tie.After-refusal → tie.Start
-start c = c .before .before .before .before .before .before .before .before
+-- from checks 1 to 6 to the start, and from what follows them to these checks
+abbrev start : tie.After-read → tie.Start
+start r = r .before .before .before .before .before .before .before .before
 
-abbrev checked : tie.Else1 → tie.After-refusal
-checked c = c .before .before .before .before
+abbrev checked : tie.Else1 → tie.After-read
+checked e = e .before .before .before
 
-abbrev passed : tie.After-draw-drawable → tie.Else1
-passed c = c .before .before .before .before .before .before
+slice-aggregate-read : tie.Need-slice-aggregate-read
+slice-aggregate-read c = search needs
 
-slice-aggregate-refusal : tie.Need-slice-aggregate-refusal
-slice-aggregate-refusal c = search needs
+slice-aggregate-read-2 : tie.Need-slice-aggregate-read-2
+slice-aggregate-read-2 c = search needs
 
-slice-aggregate-refusal-2 : tie.Need-slice-aggregate-refusal-2
-slice-aggregate-refusal-2 c = search needs
+read-requires : tie.Need-read-requires
+read-requires c κs = search needs
 
-slice-aggregate-refusal-3 : tie.Need-slice-aggregate-refusal-3
-slice-aggregate-refusal-3 c = search needs
-
-refusal-requires : tie.Need-refusal-requires
-refusal-requires c κs = search needs
+refused-requires : tie.Need-refused-requires
+refused-requires c κs = search needs
 
 returns : tie.Need-returns
 returns c =
-    let r = c .before .before .before .before in
+    let t = c .before in
+    let r = t .before .before .before in
     let a = start r .args in
-    refused-promised (a .cells .now) (a .corners .now) (a .clearance) (a .points .now) (a .triangles .now) (referencePlace (a .reference)) (r .refusal .result)
-    (r .refusal .ensures .0) (c .if1 .taken)
+    subst (PromisedAmended (a .cells .now) (a .corners .now) (a .amendments .now) (a .clearance) (a .points .now) (a .triangles .now) (referencePlace (a .reference)) _ _) (sym (c .refused .ensures))
+    (refused-first (a .cells .now) (a .corners .now) (a .amendments .now) (a .clearance) (a .points .now) (a .triangles .now) (referencePlace (a .reference))
+    (r .read .result) (r .read .ensures .0) (t .if1 .taken))
 
-slice-aggregate-draw-drawable : tie.Need-slice-aggregate-draw-drawable
-slice-aggregate-draw-drawable c = search needs
+slice-aggregate-reckon-in-force : tie.Need-slice-aggregate-reckon-in-force
+slice-aggregate-reckon-in-force c = search needs
 
-slice-aggregate-draw-drawable-2 : tie.Need-slice-aggregate-draw-drawable-2
-slice-aggregate-draw-drawable-2 c = search needs
+slice-aggregate-reckon-in-force-2 : tie.Need-slice-aggregate-reckon-in-force-2
+slice-aggregate-reckon-in-force-2 c = search needs
 
-slice-aggregate-draw-drawable-3 : tie.Need-slice-aggregate-draw-drawable-3
-slice-aggregate-draw-drawable-3 c = search needs
-
-draw-drawable-requires : tie.Need-draw-drawable-requires
-draw-drawable-requires c κs =
-    let e = c .before .before .before .before .before in
-    let r = checked e in
-    let a = start r .args in (
-      can-draw (a .cells .now) (a .corners .now) (a .clearance) (referencePlace (a .reference)) (a .points .now) (a .triangles .now) (r .refusal .result)
-          (r .refusal .ensures .0) (e .if1 .left),
-      r .refusal .ensures .1 (e .if1 .left),
-    )
-
-with-volume-requires : tie.Need-with-volume-requires
-with-volume-requires c κs = search needs
+reckon-in-force-requires : tie.Need-reckon-in-force-requires
+reckon-in-force-requires c κs = let e = c .before .before .before .before .before in checked e .read .ensures .1 (e .if1 .left)
 
 same-length : tie.Need-same-length
 same-length c = search needs
@@ -67,29 +52,22 @@ same-length-2 c = search needs
 
 returns-2 : tie.Need-returns-2
 returns-2 c =
-    let d = c .before .before .before .before .before .before .before in
-    let e = passed d in
+    let d = c .before .before .before .before in
+    let t = d .before .before .before .before .before in
+    let e = t .before in
     let r = checked e in
     let a = start r .args in
-    subst (Promised (a .cells .now) (a .corners .now) (a .clearance) (a .points .now) (a .triangles .now) (referencePlace (a .reference)) _ _)
-    (sym (c .with-volume .ensures))
-    (short-promised (a .cells .now) (a .corners .now) (a .clearance) (a .points .now) (a .triangles .now) (referencePlace (a .reference)) (r .refusal .result)
-    (r .refusal .ensures .0) (e .if1 .left) (d .draw-drawable .result) _ _ (d .draw-drawable .ensures) (c .before .if2 .taken))
+    without (a .cells .now) (a .corners .now) (a .amendments .now) (a .clearance) (a .points .now) (a .triangles .now) (referencePlace (a .reference)) _ _ _
+    (empty-is (a .amendments .now) (t .if2 .taken)) (r .read .ensures .1 (e .if1 .left) .passed) (d .reckon-in-force .ensures)
 
-sum-requires : tie.Need-sum-requires
-sum-requires c κs =
-    let d = c .before .before .before .before .before .before .before .before in
-    let e = passed d in
-    let r = checked e in
-    let a = start r .args in (
-      can-sum (a .cells .now) (a .corners .now) (a .clearance) (a .points .now) (a .triangles .now) (d .draw-drawable .result) _ _ (d .draw-drawable .ensures)
-          (c .before .before .if2 .left),
-      →false (inside (a .cells .now) (a .corners .now) (a .clearance) (referencePlace (a .reference)) (a .points .now) (a .triangles .now) (r .refusal .result)
-          (r .refusal .ensures .0) (e .if1 .left)),
-    )
+slice-aggregate-reckon-amended : tie.Need-slice-aggregate-reckon-amended
+slice-aggregate-reckon-amended c = search needs
 
-with-volume-requires-2 : tie.Need-with-volume-requires-2
-with-volume-requires-2 c κs = search needs
+slice-aggregate-reckon-amended-2 : tie.Need-slice-aggregate-reckon-amended-2
+slice-aggregate-reckon-amended-2 c = search needs
+
+reckon-amended-requires : tie.Need-reckon-amended-requires
+reckon-amended-requires c κs = let e = c .before .before .before .before .before in checked e .read .ensures .1 (e .if1 .left)
 
 same-length-3 : tie.Need-same-length-3
 same-length-3 c = search needs
@@ -98,37 +76,26 @@ same-length-4 : tie.Need-same-length-4
 same-length-4 c = search needs
 
 returns-3 : tie.Need-returns-3
-returns-3 c =
-    let d = c .before .before .before .before .before .before .before .before .before .before in
-    let e = passed d in
-    let r = checked e in
-    let a = start r .args in
-    let sum = c .before .sum in
-    subst (Promised (a .cells .now) (a .corners .now) (a .clearance) (a .points .now) (a .triangles .now) (referencePlace (a .reference)) _ _)
-    (sym (c .with-volume2 .ensures))
-    (drawn-promised (a .cells .now) (a .corners .now) (a .clearance) (a .points .now) (a .triangles .now) (d .draw-drawable .result) _ _
-    (d .draw-drawable .ensures) (c .before .before .before .before .if2 .left) (referencePlace (a .reference)) _ (kept (sum .result) (sum .ok) ∙ sum .ensures)
-    (r .refusal .result) (r .refusal .ensures .0) (e .if1 .left))
+returns-3 c = search needs
 
 pub reckon-spec : {M : Type 1} → statement M
 reckon-spec =
     tie.close
     (tie.spec
-    slice-aggregate-refusal
-    slice-aggregate-refusal-2
-    slice-aggregate-refusal-3
-    refusal-requires
+    slice-aggregate-read
+    slice-aggregate-read-2
+    read-requires
+    refused-requires
     returns
-    slice-aggregate-draw-drawable
-    slice-aggregate-draw-drawable-2
-    slice-aggregate-draw-drawable-3
-    draw-drawable-requires
-    with-volume-requires
+    slice-aggregate-reckon-in-force
+    slice-aggregate-reckon-in-force-2
+    reckon-in-force-requires
     same-length
     same-length-2
     returns-2
-    sum-requires
-    with-volume-requires-2
+    slice-aggregate-reckon-amended
+    slice-aggregate-reckon-amended-2
+    reckon-amended-requires
     same-length-3
     same-length-4
     returns-3)

@@ -8,10 +8,10 @@ use Rattle.volume.proofs.refusal.Statement.{statement}
 use Rattle.volume.proofs.refusal.Tie as tie
 
 abbrev start : tie.After-refusal → tie.Start
-start c = c .before .before .before .before .before .before .before .before .before
+start r = r .before .before .before .before .before
 
 abbrev checked : tie.Else1 → tie.After-refusal
-checked c = c .before .before .before .before .before .before .before
+checked e = e .before .before .before
 
 refusal-requires : tie.Need-refusal-requires
 refusal-requires c κs = search needs
@@ -19,60 +19,37 @@ refusal-requires c κs = search needs
 same-length : tie.Need-same-length
 same-length c = search needs
 
-same-length-2 : tie.Need-same-length-2
-same-length-2 c = search needs
-
-same-length-3 : tie.Need-same-length-3
-same-length-3 c = search needs
-
 returns : tie.Need-returns
 returns c =
-    let r = c .before .before .before .before .before .before .before in
-    let a = start r .args in (
-      refused-earlier (a .cells .now) (a .corners .now) (a .clearance) (referencePlace (a .reference)) (r .refusal .result)
-          (r .refusal .ensures .0) (c .if1 .taken),
-      λ z. absurd (c .if1 .taken z),
-    )
+    let r = c .before .before .before in
+    let a = start r .args in
+    (refused-earlier (a .cells .now) (a .corners .now) (a .asked .clearance) (referencePlace (a .asked .reference)) (r .refusal .result) (r .refusal .ensures .0) (c .if1 .taken), λ z. absurd (c .if1 .taken z))
 
 beyond-requires : tie.Need-beyond-requires
 beyond-requires c κs = search needs
 
-same-length-4 : tie.Need-same-length-4
-same-length-4 c = search needs
-
-same-length-5 : tie.Need-same-length-5
-same-length-5 c = search needs
-
-same-length-6 : tie.Need-same-length-6
-same-length-6 c = search needs
+same-length-2 : tie.Need-same-length-2
+same-length-2 c = search needs
 
 returns-2 : tie.Need-returns-2
 returns-2 c =
     let e = c .before .before in
     let r = checked e in
     let a = start r .args in (
-      refused-beyond (a .cells .now) (a .corners .now) (a .clearance) (referencePlace (a .reference)) (r .refusal .result)
-          (r .refusal .ensures .0) (e .if1 .left)
+      refused-beyond (a .cells .now) (a .corners .now) (a .asked .clearance) (referencePlace (a .asked .reference)) (r .refusal .result) (r .refusal .ensures .0) (e .if1 .left)
           (sym (c .before .beyond .ensures) ∙ c .if2 .taken),
       λ z. absurd (omega arith),
     )
 
-same-length-7 : tie.Need-same-length-7
-same-length-7 c = search needs
-
-same-length-8 : tie.Need-same-length-8
-same-length-8 c = search needs
-
-same-length-9 : tie.Need-same-length-9
-same-length-9 c = search needs
+same-length-3 : tie.Need-same-length-3
+same-length-3 c = search needs
 
 returns-3 : tie.Need-returns-3
 returns-3 c =
     let e = c .before .before in
     let r = checked e in
     let a = start r .args in (
-      refused-not (a .cells .now) (a .corners .now) (a .clearance) (referencePlace (a .reference)) (r .refusal .result)
-          (r .refusal .ensures .0) (e .if1 .left)
+      refused-not (a .cells .now) (a .corners .now) (a .asked .clearance) (referencePlace (a .asked .reference)) (r .refusal .result) (r .refusal .ensures .0) (e .if1 .left)
           (sym (c .before .beyond .ensures) ∙ c .if2 .left),
       λ z. r .refusal .ensures .1 (e .if1 .left),
     )
@@ -83,15 +60,9 @@ refusal-spec =
     (tie.spec
     refusal-requires
     same-length
-    same-length-2
-    same-length-3
     returns
     beyond-requires
-    same-length-4
-    same-length-5
-    same-length-6
+    same-length-2
     returns-2
-    same-length-7
-    same-length-8
-    same-length-9
+    same-length-3
     returns-3)
