@@ -10,10 +10,11 @@ use lib.Ieee.{Float, binary32, ofBits}
 use borrow.Author.Tests.{eq-eqb, ne-eqb}
 use Rattle.base.specs.Lists.{little, bytes}
 use Rattle.rules.specs.Closing.{ClosedIn}
+use Rattle.rules.specs.Resounding.{drawAmended}
 use Rattle.rules.specs.declared.Drawn.{Drawn}
 use Rattle.text.specs.Text.{listing}
 use Rattle.text.specs.Writing.{writtenAt, Wrote, Room}
-use Rattle.drawing.specs.Draws.{lent, Draws}
+use Rattle.drawing.specs.Draws.{Draws}
 use Rattle.draw.specs.Printed.{clearanceOf, drawing, printed}
 
 -- the clearance of a file with four bytes, and of another
@@ -36,13 +37,13 @@ room-for tc tk clearance r ps ts line closes p t l = record {
 }
 
 -- what is written is the listing of what the rules draw, and fits
-pub listed : (tc tk : List ℕ) (clearance : Float) (r : Drawn) (ps : List Float) (ts before after : List ℕ) (most end : ℕ)
-    → Draws (lent tc tk clearance (replicate 6144 (ofBits binary32 0)) (replicate 12288 0)) r ps ts
-    → Wrote (listing r ps ts) most 0 before after end → length after ≡ 202774 → Wrote (printed tc tk clearance) 202774 0 before after end
+pub listed : (tc tk ta : List ℕ) (clearance : Float) (r : Drawn) (ps : List Float) (ts before after : List ℕ) (most end : ℕ)
+    → Draws (drawAmended tc tk ta clearance (replicate 6144 (ofBits binary32 0)) (replicate 12288 0)) r ps ts
+    → Wrote (listing r ps ts) most 0 before after end → length after ≡ 202774 → Wrote (printed tc tk ta clearance) 202774 0 before after end
 unfolding printed drawing writtenAt
-listed tc tk clearance r ps ts before after most end d w size =
+listed tc tk ta clearance r ps ts before after most end d w size =
     let text = listing r ps ts in
-    let same : text ≡ printed tc tk clearance = λ i. listing (d .result-is i) (d .points-are i) (d .triangles-are i) in
+    let same : text ≡ printed tc tk ta clearance = λ i. listing (d .result-is i) (d .points-are i) (d .triangles-are i) in
     let whole : length after ≡ length text + length (drop (length text) before) = ap length (w .slice) ∙ length-append text (drop (length text) before) in
     record {
       ends = w .ends ∙ ap (λ (l : List ℕ). 0 + length l) same;

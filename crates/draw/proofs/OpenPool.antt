@@ -10,6 +10,6 @@ use Rattle.draw.specs.Printed.{clearanceOf, printed}
 use Rattle.draw.proofs.Twin.{clearance}
 
 -- by computation
-pub open-pool : printed (leaf .cells) (cornerTable (leaf .corners) oneWet) (clearanceOf clearance) ≡ lines ("refused 12" ∷ [])
+pub open-pool : printed (leaf .cells) (cornerTable (leaf .corners) oneWet) [] (clearanceOf clearance) ≡ lines ("refused 12" ∷ [])
 unfolding printed clearanceOf refusal decimalIn
 open-pool = refl

@@ -64,7 +64,7 @@ pub record TwinSurvey : Type 0 where
       "000000020004000080bf0000" ∷ "000200020004000080bf0000" ∷ "000400020004000080bf0000" ∷ "000000040004000080bf0000" ∷ "000200040004000080bf0000" ∷
       "000400040004000080bf0000" ∷ [])
   pub corner-count : length (cornersOf corners) ≡ 46
-  pub listing : printed cells corners (clearanceOf clearance) ≡ lines
+  pub listing : printed cells corners [] (clearanceOf clearance) ≡ lines
       ("4 4" ∷
       "v 43000000 44000000 44000000" ∷
       "v 43c00000 44000000 44000000" ∷

@@ -1,4 +1,5 @@
 -- `draw::list` meets its contract. Assumes nothing.
+use Rattle.rules.specs.Resounding.{amended}
 use Rattle.draw.proofs.Listing.{room-for, listed}
 use borrow.Author.Needs.{needs}
 use Rattle.draw.proofs.list.Statement.{statement}
@@ -21,19 +22,19 @@ slice-aggregate-put-listing-2 c = search needs
 
 put-listing-requires : tie.Need-put-listing-requires
 put-listing-requires c κs =
-    let a = c .before .before .before .before .before .before .before .before .before .before .before .args in
+    let a = c .before .before .before .before .before .before .before .before .before .before .before .before .args in
     let drawn = c .before .before .before .before .before .draw in
-    room-for (a .cells .now) (a .corners .now) (a .clearance) (drawn .result) _ _ (a .line .now) (drawn .ensures .1) (search (needs, drawn .kept)) (search (needs, drawn .kept)) (c .before .before .before .before .before .before .before .before .before .before .before .pre)
+    room-for (a .cells .now) (amended (a .corners .now) (a .amendments .now)) (a .clearance) (drawn .result) _ _ (a .line .now) (drawn .ensures .1) (search (needs, drawn .kept)) (search (needs, drawn .kept)) (c .before .before .before .before .before .before .before .before .before .before .before .before .pre)
 
 same-length : tie.Need-same-length
 same-length c = search needs
 
 returns : tie.Need-returns
 returns c =
-    let a = c .before .before .before .before .before .before .before .before .before .before .before .before .before .before .args in
+    let a = c .before .before .before .before .before .before .before .before .before .before .before .before .before .before .before .args in
     let drawn = c .before .before .before .before .before .before .before .before .draw in
     let put = c .before .before .put-listing in
-    listed (a .cells .now) (a .corners .now) (a .clearance) (drawn .result) _ _ _ _ _ _ (drawn .ensures .0) (put .ensures) (search (needs, put .kept, c .before .before .before .before .before .before .before .before .before .before .before .before .before .before .pre))
+    listed (a .cells .now) (a .corners .now) (a .amendments .now) (a .clearance) (drawn .result) _ _ _ _ _ _ (drawn .ensures .0) (put .ensures) (search (needs, put .kept, c .before .before .before .before .before .before .before .before .before .before .before .before .before .before .before .pre))
 
 pub list-spec : {M : Type 1} → statement M
 list-spec =

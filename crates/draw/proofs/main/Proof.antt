@@ -24,6 +24,12 @@ slice-aggregate-load-4 c = search needs
 load-requires-2 : tie.Need-load-requires-2
 load-requires-2 c κs = search needs
 
+slice-aggregate-load-amendments : tie.Need-slice-aggregate-load-amendments
+slice-aggregate-load-amendments c = search needs
+
+load-amendments-requires : tie.Need-load-amendments-requires
+load-amendments-requires c κs = search needs
+
 slice-aggregate-load-5 : tie.Need-slice-aggregate-load-5
 slice-aggregate-load-5 c = search needs
 
@@ -44,6 +50,12 @@ array-share-prefix-corners c = search needs
 
 slice-aggregate-show-2 : tie.Need-slice-aggregate-show-2
 slice-aggregate-show-2 c = sym (length-take-le _ _ (omega arith))
+
+array-share-prefix-amendments : tie.Need-array-share-prefix-amendments
+array-share-prefix-amendments c = search needs
+
+slice-aggregate-show-3 : tie.Need-slice-aggregate-show-3
+slice-aggregate-show-3 c = sym (length-take-le _ _ (omega arith))
 
 array-share-prefix-bytes : tie.Need-array-share-prefix-bytes
 array-share-prefix-bytes c = search needs
@@ -70,6 +82,8 @@ main-spec =
     slice-aggregate-load-3
     slice-aggregate-load-4
     load-requires-2
+    slice-aggregate-load-amendments
+    load-amendments-requires
     slice-aggregate-load-5
     slice-aggregate-load-6
     load-requires-3
@@ -77,6 +91,8 @@ main-spec =
     slice-aggregate-show
     array-share-prefix-corners
     slice-aggregate-show-2
+    array-share-prefix-amendments
+    slice-aggregate-show-3
     array-share-prefix-bytes
     slice-aggregate-clearance-of
     clearance-of-requires
