@@ -119,10 +119,10 @@ pub extern "C" fn clearance_enquire(
     clearance: f32,
     edge: AskedEdge,
 ) -> Reply
-    ensures exact { λ r. ⌜ r ≡ replyOf (enquiryAmended (now (cells .entry)) (now (corners .entry)) (now (amendments .entry)) clearance (edge .axis) (lowerEnd edge)
-        (edge .length)) ⌝ }
-    ensures tells { λ r. ⌜ told r ≡ enquiryAmended (now (cells .entry)) (now (corners .entry)) (now (amendments .entry)) clearance (edge .axis) (lowerEnd edge)
-        (edge .length) ⌝ }
+    ensures exact { λ r. ⌜ r ≡ replyOf (enquiryAmended (now (cells .entry)) (now (corners .entry)) (now (amendments .entry)) clearance
+        (edge .axis) (lowerEnd edge) (edge .length)) ⌝ }
+    ensures tells { λ r. ⌜ told r ≡ enquiryAmended (now (cells .entry)) (now (corners .entry)) (now (amendments .entry)) clearance
+        (edge .axis) (lowerEnd edge) (edge .length) ⌝ }
     ensures on_edge { λ r. ⌜ StaysOn (surveyOf (now (cells .entry)) (amended (now (corners .entry)) (now (amendments .entry))) clearance)
         (asked (edge .axis) (lowerEnd edge) (edge .length)) (told r) ⌝ }
 {

@@ -56,7 +56,8 @@ module _ (tc tk ta : List ℕ) (clearance : Float) (ps : List Float) (ts : List 
         subst (λ (d : Drawing). Draws d r points triangles) (sym (ap (λ (u : List ℕ). drawAmended tc tk u clearance ps ts) none ∙ plain))
 
     -- what is so drawn is closed wherever the number is 0
-    pub amended-closed : Draws (drawAmended tc tk ta clearance ps ts) r points triangles → r .number ≡ 0 → ClosedIn tc (amended tk ta) clearance r points triangles
+    pub amended-closed : Draws (drawAmended tc tk ta clearance ps ts) r points triangles → r .number ≡ 0
+        → ClosedIn tc (amended tk ta) clearance r points triangles
     amended-closed drew zero = go (eqb (firstOf (amendmentChecks tc tk ta)) 0) refl
       where
         go : (b : Bool) → eqb (firstOf (amendmentChecks tc tk ta)) 0 ≡ b → ClosedIn tc (amended tk ta) clearance r points triangles
@@ -66,4 +67,5 @@ module _ (tc tk ta : List ℕ) (clearance : Float) (ps : List Float) (ts : List 
         go false e =
             let n = firstOf (amendmentChecks tc tk ta) in
             let some : n ≡ 0 → ⊥ = λ z. not-both (eq→eqb n 0 z) e in
-            absurd (some (sym (ap (λ (d : Drawing). d .result .number) (refused-is n refl some)) ∙ sym (ap (λ (q : Drawn). q .number) (drew .result-is)) ∙ zero))
+            absurd (some (sym (ap (λ (d : Drawing). d .result .number) (refused-is n refl some)) ∙ sym (ap (λ (q : Drawn). q .number) (drew .result-is))
+            ∙ zero))

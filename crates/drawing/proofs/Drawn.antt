@@ -52,7 +52,8 @@ module _ (tc tk : List ℕ) (clearance : Float) (ps : List Float) (ts : List ℕ
   pub draw-is : draw tc tk clearance ps ts
       ≡ given (cond (drawable tc tk clearance) (firstOf (sliceChecks tc tk clearance ps ts)) (firstOf (drawingChecks tc tk clearance)))
   unfolding draw given drawable
-  draw-is = ap given (first-append (drawingChecks tc tk clearance) (sliceChecks tc tk clearance ps ts) (unfold drawingChecks checks surveyChecks tableChecks in tt))
+  draw-is = ap given (first-append (drawingChecks tc tk clearance) (sliceChecks tc tk clearance ps ts)
+      (unfold drawingChecks checks surveyChecks tableChecks in tt))
 
   -- the number is 0 only where the survey is drawable and both slices are long enough
   pub drawn-fits : draw tc tk clearance ps ts .result .number ≡ 0 → let s = surveyOf tc tk clearance in
@@ -60,7 +61,8 @@ module _ (tc tk : List ℕ) (clearance : Float) (ps : List Float) (ts : List ℕ
   unfolding draw drawable
   drawn-fits zero =
       let s = surveyOf tc tk clearance in
-      let none = first-none (drawingChecks tc tk clearance) (sliceChecks tc tk clearance ps ts) (unfold drawingChecks checks surveyChecks tableChecks in tt) zero in
+      let none = first-none (drawingChecks tc tk clearance) (sliceChecks tc tk clearance ps ts)
+      (unfold drawingChecks checks surveyChecks tableChecks in tt) zero in
       let f = both-fit (length ps) (length ts) (3 * length (pointEdges s)) (3 * length (allTriangles s)) (none .1) in
       (eq→eqb (firstOf (drawingChecks tc tk clearance)) 0 (none .0), f .0, f .1)
 

@@ -1,5 +1,6 @@
-// The drawing call: the checks of the tables, the amendments, the other checks, 12 after 8, the tables of edges and points, all triangles, the refusals of slices
-// that are too short, the points. The slices are written only where both have room. Uses checks, amendments, edges, twins, across, crossings and triangles.
+// The drawing call: the checks of the tables, the amendments, the other checks, 12 after 8, the tables of edges and points, all triangles, the refusals of
+// slices that are too short, the points. The slices are written only where both have room. Uses checks, amendments, edges, twins, across, crossings and
+// triangles.
 ghost use mathlib.Core.Path.{_≡_};
 ghost use mathlib.Core.Bool.{true};
 ghost use mathlib.Core.List.{[], _∷_};
@@ -201,8 +202,8 @@ fn draw_amended(
     )
 }
 
-// Draws the surface of a survey, as amended, at a clearance: document 01, "Outputs and refusals", and document 02, requests 3 and 6. For every input, the result
-// and both slices are those of the rules; and where the number is 0, what stands in the slices is closed, without exception.
+// Draws the surface of a survey, as amended, at a clearance: document 01, "Outputs and refusals", and document 02, requests 3 and 6. For every input, the
+// result and both slices are those of the rules; and where the number is 0, what stands in the slices is closed, without exception.
 pub fn draw(
     cells: &[u8],
     corners: &[u8],

@@ -1,4 +1,5 @@
--- The enquiry as amended, step by step as it goes: refused by a check of the tables, or answered with the corner table in force. And its place stays on the edge.
+-- The enquiry as amended, step by step as it goes: refused by a check of the tables, or answered with the corner table in force. And its place stays on
+-- the edge.
 -- Assumes nothing.
 use Prim.Native.Nat.{ℕ}
 use mathlib.Core.Path.{_≡_, refl, sym, ap, _∙_, subst}

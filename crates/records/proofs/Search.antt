@@ -151,10 +151,12 @@ module _ (t : List ℕ) (b : Bytes t) where
           go (no u) _ _ = from-middle (low + size) k (f .1 .1 (omega arith) (omega (arith, l, e))) j (omega (arith, l)) (omega (arith, e, same))
           go (yes u) (no v) _ =
               let further = at-least 1 (omega arith) in
-              from-middle (low + size + (size + 1)) k (g .1 .1 (omega arith) (omega (arith, l, e, further))) j (omega (arith, l, further)) (omega (arith, e, same))
+              from-middle (low + size + (size + 1)) k (g .1 .1 (omega arith) (omega (arith, l, e, further))) j (omega (arith, l, further))
+              (omega (arith, e, same))
           go (yes u) (yes v) (no w) =
               let further = at-least 2 (omega arith) in
-              from-middle (low + size + 2 * (size + 1)) k (h .1 .1 (omega arith) (omega (arith, l, e, further))) j (omega (arith, l, further)) (omega (arith, e, same))
+              from-middle (low + size + 2 * (size + 1)) k (h .1 .1 (omega arith) (omega (arith, l, e, further))) j (omega (arith, l, further))
+              (omega (arith, e, same))
           go (yes u) (yes v) (yes w) = absurd (omega (arith, l, q, at-least 3 (omega arith)))
 
 -- ---- from one round to the next: what is known before it, and what the round tells

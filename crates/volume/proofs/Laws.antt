@@ -65,7 +65,8 @@ module _ (tc tk : List ℕ) (clearance : Float) (p q : Place) (ps : List Float) 
   can-draw : number q ≡ 0 → T (drawable tc tk clearance)
   unfolding volumeChecks drawable
   can-draw given =
-      let none = first-none (volumeChecks tc tk clearance q) (sliceChecks tc tk clearance ps ts) (unfold drawingChecks checks surveyChecks tableChecks in tt) given .0 in
+      let none = first-none (volumeChecks tc tk clearance q) (sliceChecks tc tk clearance ps ts)
+      (unfold drawingChecks checks surveyChecks tableChecks in tt) given .0 in
       eq→eqb (firstOf (drawingChecks tc tk clearance)) 0
       (first-none (drawingChecks tc tk clearance) ((13, beyondBox q) ∷ []) (unfold drawingChecks checks surveyChecks tableChecks in tt) none .0)
 

@@ -71,7 +71,8 @@ module _ (tc tk : List ℕ) (clearance : Float) (reference : Place) (ps : List F
       ≡ cond (eqb (firstOf (volumeChecks tc tk clearance reference)) 0) (firstOf (sliceChecks tc tk clearance ps ts))
       (firstOf (volumeChecks tc tk clearance reference))
   in-order =
-      first-append (volumeChecks tc tk clearance reference) (sliceChecks tc tk clearance ps ts) (unfold volumeChecks drawingChecks checks surveyChecks tableChecks in tt)
+      first-append (volumeChecks tc tk clearance reference) (sliceChecks tc tk clearance ps ts)
+      (unfold volumeChecks drawingChecks checks surveyChecks tableChecks in tt)
 
   -- ---- no check before the slices' applies: as for a drawing
 

@@ -1,5 +1,5 @@
--- What a call for the volume promises: what it returns and what stands in the lent slices afterwards is what the rules say; and what holds of it where the number
--- is 0.
+-- What a call for the volume promises: what it returns and what stands in the lent slices afterwards is what the rules say; and what holds of it where the
+-- number is 0.
 -- Assumes nothing: these are definitions.
 use Prim.Native.Nat.{ℕ}
 use mathlib.Core.Path.{_≡_}

@@ -138,8 +138,9 @@ fn reckon_amended(
     reckon_in_force(cells, &table[..n], asked, laid, octants, points, triangles)
 }
 
-// Draws the surface of a survey, as amended, at a clearance, and gives six times the volume inside: document 02, requests 4 and 6. For every input, the result and
-// both slices are those of the rules. Where the number is 0, what stands in the slices is closed, and the volume is the same from every reference of the box.
+// Draws the surface of a survey, as amended, at a clearance, and gives six times the volume inside: document 02, requests 4 and 6. For every input, the result
+// and both slices are those of the rules. Where the number is 0, what stands in the slices is closed, and the volume is the same from every reference of the
+// box.
 pub fn reckon(
     cells: &[u8],
     corners: &[u8],

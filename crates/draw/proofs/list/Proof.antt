@@ -24,7 +24,9 @@ put-listing-requires : tie.Need-put-listing-requires
 put-listing-requires c κs =
     let a = c .before .before .before .before .before .before .before .before .before .before .before .before .args in
     let drawn = c .before .before .before .before .before .draw in
-    room-for (a .cells .now) (amended (a .corners .now) (a .amendments .now)) (a .clearance) (drawn .result) _ _ (a .line .now) (drawn .ensures .1) (search (needs, drawn .kept)) (search (needs, drawn .kept)) (c .before .before .before .before .before .before .before .before .before .before .before .before .pre)
+    room-for (a .cells .now) (amended (a .corners .now) (a .amendments .now)) (a .clearance) (drawn .result) _ _ (a .line .now) (drawn .ensures .1)
+    (search (needs, drawn .kept)) (search (needs, drawn .kept))
+    (c .before .before .before .before .before .before .before .before .before .before .before .before .pre)
 
 same-length : tie.Need-same-length
 same-length c = search needs
@@ -34,7 +36,8 @@ returns c =
     let a = c .before .before .before .before .before .before .before .before .before .before .before .before .before .before .before .args in
     let drawn = c .before .before .before .before .before .before .before .before .draw in
     let put = c .before .before .put-listing in
-    listed (a .cells .now) (a .corners .now) (a .amendments .now) (a .clearance) (drawn .result) _ _ _ _ _ _ (drawn .ensures .0) (put .ensures) (search (needs, put .kept, c .before .before .before .before .before .before .before .before .before .before .before .before .before .before .before .pre))
+    listed (a .cells .now) (a .corners .now) (a .amendments .now) (a .clearance) (drawn .result) _ _ _ _ _ _ (drawn .ensures .0) (put .ensures)
+    (search (needs, put .kept, c .before .before .before .before .before .before .before .before .before .before .before .before .before .before .before .pre))
 
 pub list-spec : {M : Type 1} → statement M
 list-spec =

@@ -34,8 +34,10 @@ returns c =
     let r = t .before .before .before in
     let a = start r .args in
     let drew =
-    subst (λ (q : Drawn). Draws (drawAmended (a .cells .now) (a .corners .now) (a .amendments .now) (a .clearance) (a .points .now) (a .triangles .now)) q (a .points .now) (a .triangles .now)) (sym (c .result .ensures))
-    (refused-first (a .cells .now) (a .corners .now) (a .amendments .now) (a .clearance) (a .points .now) (a .triangles .now) (r .read .result) (r .read .ensures .0) (t .if1 .taken)) in
+    subst (λ (q : Drawn). Draws (drawAmended (a .cells .now) (a .corners .now) (a .amendments .now) (a .clearance) (a .points .now) (a .triangles .now)) q
+    (a .points .now) (a .triangles .now)) (sym (c .result .ensures))
+    (refused-first (a .cells .now) (a .corners .now) (a .amendments .now) (a .clearance) (a .points .now) (a .triangles .now) (r .read .result)
+    (r .read .ensures .0) (t .if1 .taken)) in
     (drew, amended-closed (a .cells .now) (a .corners .now) (a .amendments .now) (a .clearance) (a .points .now) (a .triangles .now) _ _ _ drew)
 
 slice-aggregate-draw-in-force : tie.Need-slice-aggregate-draw-in-force
@@ -61,7 +63,8 @@ returns-2 c =
     let r = checked e in
     let a = start r .args in
     let drew =
-    without (a .cells .now) (a .corners .now) (a .amendments .now) (a .clearance) (a .points .now) (a .triangles .now) _ _ _ (empty-is (a .amendments .now) (t .if2 .taken))
+    without (a .cells .now) (a .corners .now) (a .amendments .now) (a .clearance) (a .points .now) (a .triangles .now) _ _ _ (empty-is (a .amendments .now)
+    (t .if2 .taken))
     (r .read .ensures .1 (e .if1 .left) .passed) (d .draw-in-force .ensures) in
     (drew, amended-closed (a .cells .now) (a .corners .now) (a .amendments .now) (a .clearance) (a .points .now) (a .triangles .now) _ _ _ drew)
 
@@ -83,8 +86,11 @@ same-length-4 c = search needs
 returns-3 : tie.Need-returns-3
 returns-3 c =
     let d = c .before .before .before .before in
-    let a = start (checked (d .before .before .before .before .before .before)) .args in
-    (d .draw-amended .ensures, amended-closed (a .cells .now) (a .corners .now) (a .amendments .now) (a .clearance) (a .points .now) (a .triangles .now) _ _ _ (d .draw-amended .ensures))
+    let a = start (checked (d .before .before .before .before .before .before)) .args in (
+      d .draw-amended .ensures,
+      amended-closed (a .cells .now) (a .corners .now) (a .amendments .now) (a .clearance) (a .points .now)
+          (a .triangles .now) _ _ _ (d .draw-amended .ensures),
+    )
 
 pub draw-spec : {M : Type 1} → statement M
 draw-spec =

@@ -29,9 +29,11 @@ returns c =
     let t = c .before in
     let r = t .before .before in
     let a = start r .args in
-    subst (λ (q : Drawn). Draws (draw (a .cells .now) (a .corners .now) (a .clearance) (a .points .now) (a .triangles .now)) q (a .points .now) (a .triangles .now))
+    subst (λ (q : Drawn). Draws (draw (a .cells .now) (a .corners .now) (a .clearance) (a .points .now) (a .triangles .now)) q (a .points .now)
+    (a .triangles .now))
     (sym (c .result .ensures))
-    (refused (a .cells .now) (a .corners .now) (a .clearance) (a .points .now) (a .triangles .now) (r .refusal .result) (r .refusal .ensures .0) (t .if1 .taken))
+    (refused (a .cells .now) (a .corners .now) (a .clearance) (a .points .now) (a .triangles .now) (r .refusal .result) (r .refusal .ensures .0)
+    (t .if1 .taken))
 
 slice-aggregate-draw-drawable : tie.Need-slice-aggregate-draw-drawable
 slice-aggregate-draw-drawable c = search needs

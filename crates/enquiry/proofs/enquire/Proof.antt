@@ -28,7 +28,8 @@ returns c =
     let r = c .before .before .before in
     let a = start r .args in
     both (a .cells .now) (a .corners .now) (a .amendments .now) (a .clearance) (a .edge .axis) (lowerEnd (a .edge)) (a .edge .length) _
-    (refused-first (a .cells .now) (a .corners .now) (a .amendments .now) (a .clearance) (a .edge .axis) (lowerEnd (a .edge)) (a .edge .length) (r .read .result) (r .read .ensures .0) (c .if1 .taken))
+    (refused-first (a .cells .now) (a .corners .now) (a .amendments .now) (a .clearance) (a .edge .axis) (lowerEnd (a .edge)) (a .edge .length)
+    (r .read .result) (r .read .ensures .0) (c .if1 .taken))
 
 slice-aggregate-enquire-in-force : tie.Need-slice-aggregate-enquire-in-force
 slice-aggregate-enquire-in-force c = search needs
@@ -62,7 +63,8 @@ enquire-amended-requires c κs = let e = c .before .before .before in checked e 
 returns-3 : tie.Need-returns-3
 returns-3 c =
     let a = start (checked (c .before .before .before .before)) .args in
-    both (a .cells .now) (a .corners .now) (a .amendments .now) (a .clearance) (a .edge .axis) (lowerEnd (a .edge)) (a .edge .length) _ (c .enquire-amended .ensures)
+    both (a .cells .now) (a .corners .now) (a .amendments .now) (a .clearance) (a .edge .axis) (lowerEnd (a .edge)) (a .edge .length) _
+    (c .enquire-amended .ensures)
 
 pub enquire-spec : {M : Type 1} → statement M
 enquire-spec =

@@ -32,7 +32,8 @@ returns : tie.Need-returns
 returns c =
     let r = c .before .before in
     let a = start r .args in
-    refused-next (a .cells .now) (a .corners .now) (a .amendments .now) (a .clearance) (a .edge .axis) (lowerEnd (a .edge)) (a .edge .length) (r .refusal .result)
+    refused-next (a .cells .now) (a .corners .now) (a .amendments .now) (a .clearance) (a .edge .axis) (lowerEnd (a .edge)) (a .edge .length)
+    (r .refusal .result)
     (r .refusal .ensures .0) (c .if1 .taken)
 
 array-share-prefix-table : tie.Need-array-share-prefix-table

@@ -51,7 +51,8 @@ returns-3 c =
     let e = r .refusal .ensures in
     let z = c .before .before .before .before .if1 .left in
     (edge-refused tc tk x n p (s .args .edge .length) (r .refusal .result) e z (omega (arith, c .before .before .if2 .left))
-    (far-off tc tk x (is-accepted tc tk x n p (s .args .edge .length) (r .refusal .result) e z) (axisOf n) X p (levelOf (s .args .edge .length)) (c .if3 .taken)))
+    (far-off tc tk x (is-accepted tc tk x n p (s .args .edge .length) (r .refusal .result) e z) (axisOf n) X p (levelOf (s .args .edge .length))
+    (c .if3 .taken)))
 
 returns-4 : tie.Need-returns-4
 returns-4 c =
@@ -65,7 +66,8 @@ returns-4 c =
     let e = r .refusal .ensures in
     let z = c .before .before .before .before .before .before .if1 .left in
     (edge-refused tc tk x n p (s .args .edge .length) (r .refusal .result) e z (omega (arith, c .before .before .before .before .if2 .left))
-    (far-off tc tk x (is-accepted tc tk x n p (s .args .edge .length) (r .refusal .result) e z) (axisOf n) Y p (levelOf (s .args .edge .length)) (c .if4 .taken)))
+    (far-off tc tk x (is-accepted tc tk x n p (s .args .edge .length) (r .refusal .result) e z) (axisOf n) Y p (levelOf (s .args .edge .length))
+    (c .if4 .taken)))
 
 returns-5 : tie.Need-returns-5
 returns-5 c =
@@ -79,7 +81,8 @@ returns-5 c =
     let e = r .refusal .ensures in
     let z = c .before .before .before .before .before .before .before .before .if1 .left in
     (edge-refused tc tk x n p (s .args .edge .length) (r .refusal .result) e z (omega (arith, c .before .before .before .before .before .before .if2 .left))
-    (far-off tc tk x (is-accepted tc tk x n p (s .args .edge .length) (r .refusal .result) e z) (axisOf n) Z p (levelOf (s .args .edge .length)) (c .if5 .taken)))
+    (far-off tc tk x (is-accepted tc tk x n p (s .args .edge .length) (r .refusal .result) e z) (axisOf n) Z p (levelOf (s .args .edge .length))
+    (c .if5 .taken)))
 
 cast-key : tie.Need-cast-key
 cast-key c = search needs
@@ -116,8 +119,13 @@ enquire-accepted-requires c κs =
     let p = lowerEnd (s .args .edge) in
     let e = r .refusal .ensures in
     let z = c .before .before .before .before .before .before .before .before .before .before .before .before .if1 .left in
-    let passed = is-accepted tc tk x n p (s .args .edge .length) (r .refusal .result) e z in
-    (passed, ((s .pre .cell, s .pre .cell-room), (s .pre .corner, omega (arith, c .before .before .before .before .before .before .before .before .before .before .if2 .left))))
+    let passed = is-accepted tc tk x n p (s .args .edge .length) (r .refusal .result) e z in (
+      passed,
+      (
+        (s .pre .cell, s .pre .cell-room),
+        (s .pre .corner, omega (arith, c .before .before .before .before .before .before .before .before .before .before .if2 .left)),
+      ),
+    )
 
 returns-6 : tie.Need-returns-6
 returns-6 c =
@@ -130,8 +138,14 @@ returns-6 c =
     let p = lowerEnd (s .args .edge) in
     let e = r .refusal .ensures in
     let z = c .before .before .before .before .before .before .before .before .before .before .before .before .before .if1 .left in
-    (c .enquire-accepted .ensures p (record { x-fits = omega (arith, c .before .before .before .before .before .before .before .before .before .if3 .left); y-fits = omega (arith, c .before .before .before .before .before .before .before .if4 .left) }) (key-is (s .args .edge .x) (s .args .edge .y) (s .args .edge .z)) ∙
-    ap (edgeAnswer tc tk x (axisOf n) p) (c .before .level-of .ensures) ∙ enquiry-answer tc tk x n p (s .args .edge .length) (r .refusal .result) e z (omega (arith, c .before .before .before .before .before .before .before .before .before .before .before .if2 .left)))
+    (c .enquire-accepted .ensures p
+    (record {
+      x-fits = omega (arith, c .before .before .before .before .before .before .before .before .before .if3 .left);
+      y-fits = omega
+          (arith, c .before .before .before .before .before .before .before .if4 .left);
+    }) (key-is (s .args .edge .x) (s .args .edge .y) (s .args .edge .z)) ∙
+    ap (edgeAnswer tc tk x (axisOf n) p) (c .before .level-of .ensures) ∙ enquiry-answer tc tk x n p (s .args .edge .length) (r .refusal .result) e z
+    (omega (arith, c .before .before .before .before .before .before .before .before .before .before .before .if2 .left)))
 
 pub enquire-in-force-spec : {M : Type 1} → statement M
 enquire-in-force-spec =

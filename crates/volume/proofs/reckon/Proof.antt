@@ -31,7 +31,8 @@ returns c =
     let t = c .before in
     let r = t .before .before .before in
     let a = start r .args in
-    subst (PromisedAmended (a .cells .now) (a .corners .now) (a .amendments .now) (a .clearance) (a .points .now) (a .triangles .now) (referencePlace (a .reference)) _ _) (sym (c .refused .ensures))
+    subst (PromisedAmended (a .cells .now) (a .corners .now) (a .amendments .now) (a .clearance) (a .points .now) (a .triangles .now)
+    (referencePlace (a .reference)) _ _) (sym (c .refused .ensures))
     (refused-first (a .cells .now) (a .corners .now) (a .amendments .now) (a .clearance) (a .points .now) (a .triangles .now) (referencePlace (a .reference))
     (r .read .result) (r .read .ensures .0) (t .if1 .taken))
 

@@ -36,8 +36,10 @@ returns c =
     let t = c .before in
     let r = t .before .before in
     let a = start r .args in
-    subst (PromisedAmended (a .cells .now) (a .corners .now) (a .amendments .now) (a .asked .clearance) (a .points .now) (a .triangles .now) (referencePlace (a .asked .reference)) _ _) (sym (c .refused .ensures))
-    (refused-next (a .cells .now) (a .corners .now) (a .amendments .now) (a .asked .clearance) (a .points .now) (a .triangles .now) (referencePlace (a .asked .reference))
+    subst (PromisedAmended (a .cells .now) (a .corners .now) (a .amendments .now) (a .asked .clearance) (a .points .now) (a .triangles .now)
+    (referencePlace (a .asked .reference)) _ _) (sym (c .refused .ensures))
+    (refused-next (a .cells .now) (a .corners .now) (a .amendments .now) (a .asked .clearance) (a .points .now) (a .triangles .now)
+    (referencePlace (a .asked .reference))
     (r .refusal .result) (r .refusal .ensures .0) (t .if1 .taken))
 
 array-share-prefix-table : tie.Need-array-share-prefix-table
@@ -69,7 +71,8 @@ returns-2 c =
     let e = d .before .before .before .before in
     let r = checked e in
     let a = start r .args in
-    in-force (a .cells .now) (a .corners .now) (a .amendments .now) (a .asked .clearance) (a .points .now) (a .triangles .now) (referencePlace (a .asked .reference)) _ _ _
+    in-force (a .cells .now) (a .corners .now) (a .amendments .now) (a .asked .clearance) (a .points .now) (a .triangles .now)
+    (referencePlace (a .asked .reference)) _ _ _
     (sym (r .refusal .ensures .0) ∙ e .if1 .left) _ (in-front e) (d .reckon-in-force .ensures)
 
 pub reckon-amended-spec : {M : Type 1} → statement M

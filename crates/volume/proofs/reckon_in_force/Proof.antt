@@ -33,7 +33,8 @@ returns c =
     let t = c .before in
     let r = t .before .before in
     let a = start r .args in
-    subst (Promised (a .cells .now) (a .corners .now) (a .asked .clearance) (a .points .now) (a .triangles .now) (referencePlace (a .asked .reference)) _ _) (sym (c .refused .ensures))
+    subst (Promised (a .cells .now) (a .corners .now) (a .asked .clearance) (a .points .now) (a .triangles .now) (referencePlace (a .asked .reference)) _ _)
+    (sym (c .refused .ensures))
     (refused-promised (a .cells .now) (a .corners .now) (a .asked .clearance) (a .points .now) (a .triangles .now) (referencePlace (a .asked .reference))
     (r .refusal .result) (r .refusal .ensures .0) (t .if1 .taken))
 
@@ -102,7 +103,8 @@ returns-3 c =
     subst (Promised (a .cells .now) (a .corners .now) (a .asked .clearance) (a .points .now) (a .triangles .now) (referencePlace (a .asked .reference)) _ _)
     (sym (c .with-volume2 .ensures))
     (drawn-promised (a .cells .now) (a .corners .now) (a .asked .clearance) (a .points .now) (a .triangles .now) (d .draw-drawable .result) _ _
-    (d .draw-drawable .ensures) (c .before .before .before .before .if2 .left) (referencePlace (a .asked .reference)) _ (kept (sum .result) (sum .ok) ∙ sum .ensures)
+    (d .draw-drawable .ensures) (c .before .before .before .before .if2 .left) (referencePlace (a .asked .reference)) _ (kept (sum .result) (sum .ok)
+    ∙ sum .ensures)
     (r .refusal .result) (r .refusal .ensures .0) (e .if1 .left))
 
 pub reckon-in-force-spec : {M : Type 1} → statement M

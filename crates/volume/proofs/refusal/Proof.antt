@@ -22,8 +22,11 @@ same-length c = search needs
 returns : tie.Need-returns
 returns c =
     let r = c .before .before .before in
-    let a = start r .args in
-    (refused-earlier (a .cells .now) (a .corners .now) (a .asked .clearance) (referencePlace (a .asked .reference)) (r .refusal .result) (r .refusal .ensures .0) (c .if1 .taken), λ z. absurd (c .if1 .taken z))
+    let a = start r .args in (
+      refused-earlier (a .cells .now) (a .corners .now) (a .asked .clearance) (referencePlace (a .asked .reference)) (r .refusal .result)
+          (r .refusal .ensures .0) (c .if1 .taken),
+      λ z. absurd (c .if1 .taken z),
+    )
 
 beyond-requires : tie.Need-beyond-requires
 beyond-requires c κs = search needs
@@ -36,7 +39,8 @@ returns-2 c =
     let e = c .before .before in
     let r = checked e in
     let a = start r .args in (
-      refused-beyond (a .cells .now) (a .corners .now) (a .asked .clearance) (referencePlace (a .asked .reference)) (r .refusal .result) (r .refusal .ensures .0) (e .if1 .left)
+      refused-beyond (a .cells .now) (a .corners .now) (a .asked .clearance) (referencePlace (a .asked .reference)) (r .refusal .result)
+          (r .refusal .ensures .0) (e .if1 .left)
           (sym (c .before .beyond .ensures) ∙ c .if2 .taken),
       λ z. absurd (omega arith),
     )
@@ -49,7 +53,8 @@ returns-3 c =
     let e = c .before .before in
     let r = checked e in
     let a = start r .args in (
-      refused-not (a .cells .now) (a .corners .now) (a .asked .clearance) (referencePlace (a .asked .reference)) (r .refusal .result) (r .refusal .ensures .0) (e .if1 .left)
+      refused-not (a .cells .now) (a .corners .now) (a .asked .clearance) (referencePlace (a .asked .reference)) (r .refusal .result)
+          (r .refusal .ensures .0) (e .if1 .left)
           (sym (c .before .beyond .ensures) ∙ c .if2 .left),
       λ z. r .refusal .ensures .1 (e .if1 .left),
     )
