@@ -1,17 +1,21 @@
-//! Random damaged surveys, each from one seed: one kind of damage for each refusal 1 to 8, and several
+//! Random damaged surveys, each from one seed: one kind of damage for each refusal 1 to 8, 14 and 15, and several
 //! together; and surveys with bits flipped and bytes lost, about which nothing is known beforehand.
 
 use std::collections::BTreeSet;
+use std::iter::repeat_with;
 
 use crate::generate;
+use crate::plain::{in_force, records};
 use crate::random::Random;
-use crate::survey::{corner_record, too_deep_table};
+use crate::refusals::{AMENDMENT_PLACE, AMENDMENT_TABLE, ORDER};
+use crate::soundings::unlawful;
+use crate::survey::{table, too_deep_table, without_days, Record};
 use crate::Survey;
 
 const CELL_RECORD: usize = 4;
 const MOST_CELL_BYTES: usize = 8_196;
-const CORNER_RECORD: usize = 10;
-const MOST_CORNER_BYTES: usize = 48_720;
+const MOST_CORNER_BYTES: usize = 58_464;
+const MOST_AMENDMENT_BYTES: usize = 12_000;
 
 /// A survey that is refused.
 pub struct Damaged {
@@ -21,54 +25,62 @@ pub struct Damaged {
     pub refusal: u32,
 }
 
-/// A survey with one to three kinds of damage; the refusal is that of the least.
+/// A survey with one to three kinds of damage; the refusal is that of the first check that finds any.
 pub fn damaged(seed: u64) -> Damaged {
     let random = &mut Random::new(seed);
-    let kinds: BTreeSet<u32> = (0..=random.below(3)).map(|_| 1 + random.below(8) as u32).collect();
+    let kinds: BTreeSet<u32> = (0..=random.below(3)).map(|_| random.pick(&ORDER)).collect();
     damaged_by(random, &kinds)
 }
 
-/// A survey with one kind of damage, by the number of its refusal: 1 to 8.
+/// A survey with one kind of damage, by the number of its refusal: one of [`ORDER`].
 pub fn damaged_for(refusal: u32, seed: u64) -> Damaged {
     damaged_by(&mut Random::new(seed), &BTreeSet::from([refusal]))
 }
 
-/// Damage is done from the highest number down, so that none of it undoes damage of a lower number. Most of the
-/// surveys would be refused for drawing by 12 too, which comes after all of it.
+/// Damage is done from the last check to the first, so that none of it undoes damage that an earlier check finds. Most of
+/// the surveys would be refused for drawing by 12 too, which comes after all of it.
 fn damaged_by(random: &mut Random, kinds: &BTreeSet<u32>) -> Damaged {
     let mut survey = generate::survey(random.bits());
-    for kind in kinds.iter().rev() {
-        match kind {
-            1 => break_length(random, &mut survey.cells, CELL_RECORD, MOST_CELL_BYTES),
-            2 => break_length(random, &mut survey.corners, CORNER_RECORD, MOST_CORNER_BYTES),
-            3 => break_entries(random, &mut survey.cells),
-            4 => survey.cells = too_deep_table(|| random.below(8)),
-            5 => break_order(random, &mut survey.corners),
-            6 => break_corner_set(random, &mut survey.corners),
-            7 => {
-                let at = record_start(random, &survey.corners, CORNER_RECORD) + 6;
-                survey.corners[at..at + 4].copy_from_slice(&unlawful_number(random).to_le_bytes());
-            }
-            _ => survey.clearance = unlawful_number(random),
-        }
+    let in_order: Vec<u32> = ORDER.into_iter().filter(|number| kinds.contains(number)).collect();
+    for &kind in in_order.iter().rev() {
+        damage(random, &mut survey, kind);
     }
-    Damaged { survey, refusal: kinds.first().copied().unwrap_or(0) }
+    Damaged { survey, refusal: in_order[0] }
 }
 
-/// A random survey with flipped bits, lost bytes, records that change places and extreme numbers. It may be
-/// lawful still, and drawn or open at the box.
+fn damage(random: &mut Random, survey: &mut Survey, kind: u32) {
+    match kind {
+        1 => break_length(random, &mut survey.cells, CELL_RECORD, MOST_CELL_BYTES),
+        2 => break_corner_length(random, &mut survey.corners),
+        3 => break_entries(random, &mut survey.cells),
+        4 => survey.cells = too_deep_table(|| random.below(8)),
+        5 => break_order(random, &mut survey.corners),
+        6 => break_corner_set(random, &mut survey.corners),
+        AMENDMENT_TABLE => break_amendment_length(random, &mut survey.amendments),
+        AMENDMENT_PLACE => break_amendment_place(random, survey),
+        7 => break_sounding(random, survey),
+        _ => survey.clearance = unlawful(random),
+    }
+}
+
+/// A random survey with flipped bits, lost bytes, records that change places and extreme numbers, now and then with corner
+/// records that have no day. It may be lawful still, and drawn or open at the box.
 pub fn corrupted(seed: u64) -> Survey {
     let random = &mut Random::new(seed);
     let mut survey = generate::small_mixed(random.bits(), 6);
     for _ in 0..=random.below(3) {
-        let (table, record) = match random.below(3) {
+        let (table, record) = match random.below(4) {
             0 => (&mut survey.cells, CELL_RECORD),
-            _ => (&mut survey.corners, CORNER_RECORD),
+            1 => (&mut survey.amendments, Record::BYTES),
+            _ => (&mut survey.corners, Record::BYTES),
         };
         corrupt(random, table, record);
     }
     if random.one_in(8) {
         survey.clearance = f32::from_bits(random.bits() as u32);
+    }
+    if random.one_in(16) {
+        survey.corners = without_days(&survey.corners);
     }
     survey
 }
@@ -96,11 +108,38 @@ fn record_start(random: &mut Random, table: &[u8], record: usize) -> usize {
     random.below(table.len() / record) * record
 }
 
+/// Refusal 2, with a table among the lengths that has no days and is not whole records.
+fn break_corner_length(random: &mut Random, corners: &mut Vec<u8>) {
+    let undated = without_days(corners);
+    if random.one_in(4) && !undated.len().is_multiple_of(Record::BYTES) {
+        *corners = undated;
+    } else {
+        break_length(random, corners, Record::BYTES, MOST_CORNER_BYTES);
+    }
+}
+
+/// Refusal 14: not whole records, or over the limit. An empty table is lawful.
+fn break_amendment_length(random: &mut Random, amendments: &mut Vec<u8>) {
+    match random.below(3) {
+        0 => {
+            let over = random.pick(&[1, Record::BYTES, MOST_AMENDMENT_BYTES]);
+            amendments.resize(MOST_AMENDMENT_BYTES + over, 0);
+        }
+        1 if !amendments.is_empty() => shorten(random, amendments, Record::BYTES),
+        _ => amendments.resize(amendments.len() + 1 + random.below(Record::BYTES - 1), 0),
+    }
+}
+
+/// Takes a part of the last record away.
+fn shorten(random: &mut Random, table: &mut Vec<u8>, record: usize) {
+    table.truncate(table.len() - 1 - random.below(record - 1));
+}
+
 /// Refusals 1 and 2: empty, not whole records, or over the limit, which is whole records.
 fn break_length(random: &mut Random, table: &mut Vec<u8>, record: usize, most: usize) {
     match random.below(3) {
         0 => table.clear(),
-        1 => table.truncate(table.len() - 1 - random.below(record - 1)),
+        1 => shorten(random, table, record),
         _ => table.resize(most + record, 0),
     }
 }
@@ -123,39 +162,62 @@ fn break_entries(random: &mut Random, cells: &mut Vec<u8>) {
 
 /// Refusal 5: two different records change places, or one stands twice.
 fn break_order(random: &mut Random, corners: &mut [u8]) {
-    let last = corners.len() / CORNER_RECORD - 1;
+    let last = corners.len() / Record::BYTES - 1;
     let one = random.below(last);
     let other = one + 1 + random.below(last - one);
-    for byte in 0..CORNER_RECORD {
-        corners.swap(one * CORNER_RECORD + byte, other * CORNER_RECORD + byte);
+    for byte in 0..Record::BYTES {
+        corners.swap(one * Record::BYTES + byte, other * Record::BYTES + byte);
     }
     if random.one_in(3) {
-        let start = other * CORNER_RECORD;
-        corners.copy_within(start..start + CORNER_RECORD, one * CORNER_RECORD);
+        let start = other * Record::BYTES;
+        corners.copy_within(start..start + Record::BYTES, one * Record::BYTES);
     }
 }
 
 /// Refusal 6: a record is lost, or one comes in at its due place that is no cell's corner.
 fn break_corner_set(random: &mut Random, corners: &mut Vec<u8>) {
     if random.one_in(2) || corners.len() == MOST_CORNER_BYTES {
-        let start = record_start(random, corners, CORNER_RECORD);
-        corners.drain(start..start + CORNER_RECORD);
+        let start = record_start(random, corners, Record::BYTES);
+        corners.drain(start..start + Record::BYTES);
         return;
     }
     let reversed = |[x, y, z]: [u16; 3]| [z, y, x];
-    let places: BTreeSet<[u16; 3]> =
-        crate::plain::corners(corners).map(|(place, _)| reversed(place)).collect();
-    let bound = random.pick(&[1_025, 65_536]);
-    let place = std::iter::repeat_with(|| [0; 3].map(|_: u16| random.below(bound) as u16))
-        .find(|&place| !places.contains(&reversed(place)))
-        .expect("most places are no corner");
-    let start = places.range(..reversed(place)).count() * CORNER_RECORD;
-    corners.splice(start..start, corner_record(place, -1.0));
+    let place = no_corner(random, corners);
+    let before = records(corners).filter(|record| reversed(record.place) < reversed(place)).count();
+    let start = before * Record::BYTES;
+    corners.splice(start..start, Record { place, sounding: -1.0, day: random.bits() as u16 }.bytes());
 }
 
-/// A number that is not finite or out of range: the next beyond, infinities, and NaNs of several patterns.
-fn unlawful_number(random: &mut Random) -> f32 {
-    let bits = [0x4980_0001, 0x7f7f_ffff, 0x7f80_0000, 0x7f80_0001, 0x7fc0_0000, 0x7fff_ffff];
-    let sign = (random.bits() as u32) << 31;
-    f32::from_bits(random.pick(&bits) | sign)
+/// A place in the box or beyond it that no record of a corner table has.
+fn no_corner(random: &mut Random, corners: &[u8]) -> [u16; 3] {
+    let places: BTreeSet<[u16; 3]> = records(corners).map(|record| record.place).collect();
+    let bound = random.pick(&[1_025, 65_536]);
+    repeat_with(|| [0; 3].map(|_: u16| random.below(bound) as u16))
+        .find(|place| !places.contains(place))
+        .expect("most places are no corner")
+}
+
+/// Refusal 15: an amendment comes in that is at no cell's corner, of any day and with any sounding. A full table has one
+/// less of the others.
+fn break_amendment_place(random: &mut Random, survey: &mut Survey) {
+    let mut amendments: Vec<Record> = records(&survey.amendments).collect();
+    if survey.amendments.len() == MOST_AMENDMENT_BYTES {
+        amendments.swap_remove(random.below(amendments.len()));
+    }
+    let place = no_corner(random, &survey.corners);
+    let sounding = if random.one_in(2) { unlawful(random) } else { -1.0 };
+    let stray = Record { place, sounding, day: random.pick(&[0, 1, 65_535]) };
+    amendments.insert(random.below(amendments.len() + 1), stray);
+    survey.amendments = table(amendments);
+}
+
+/// Refusal 7: a record in force gets a sounding that is not lawful.
+fn break_sounding(random: &mut Random, survey: &mut Survey) {
+    let corner = random.below(survey.corners.len() / Record::BYTES);
+    let (table, number) = match in_force(survey)[corner].amendment {
+        None => (&mut survey.corners, corner),
+        Some(number) => (&mut survey.amendments, number),
+    };
+    let at = number * Record::BYTES + 6;
+    table[at..at + 4].copy_from_slice(&unlawful(random).to_le_bytes());
 }

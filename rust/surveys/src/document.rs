@@ -1,5 +1,6 @@
 //! The surveys of document 01, "Surveys to try", and a few small ones, with what is known of them. Where
-//! document 02 changes what document 01 says of a survey, its request is named.
+//! document 02 changes what document 01 says of a survey, its request is named. The lists have those of
+//! [`resounded`](crate::resounded) too.
 //!
 //! Clearance 0, wet +1, dry −1 unless said.
 
@@ -8,6 +9,7 @@ use crate::expected::{
     opposite_points, opposite_triangles, points_close_to, quarter_points, twin_points, twin_triangles,
 };
 use crate::refusals::{self, OPEN_AT_BOX};
+use crate::resounded;
 use crate::survey::{cell_table, too_deep_table, Cube, Octree, BOX_SIZE};
 use crate::Survey;
 
@@ -27,12 +29,12 @@ pub struct Drawn {
 }
 
 impl Drawn {
-    fn new(name: &str, survey: Survey, points: Vec<[f32; 3]>, triangles: Vec<[u32; 3]>) -> Drawn {
+    pub(crate) fn new(name: &str, survey: Survey, points: Vec<[f32; 3]>, triangles: Vec<[u32; 3]>) -> Drawn {
         Drawn { name: name.to_string(), survey, points, triangles }
     }
 }
 
-/// A survey that a check of 1 to 8 or 12 decides.
+/// A survey that a check decides with which the lent slices have nothing to do.
 pub struct Checked {
     /// What the survey shows. No other has this name.
     pub name: String,
@@ -43,7 +45,7 @@ pub struct Checked {
 }
 
 impl Checked {
-    fn new(name: &str, survey: Survey, refusal: u32) -> Checked {
+    pub(crate) fn new(name: &str, survey: Survey, refusal: u32) -> Checked {
         Checked { name: name.to_string(), survey, refusal }
     }
 
@@ -206,6 +208,7 @@ pub fn drawn() -> Vec<Drawn> {
         list.push(drawn(&name, survey, points_close_to(middle), centre_triangles()));
     }
     list.extend(drawn_at_clearance());
+    list.extend(resounded::drawn());
     list
 }
 
@@ -241,7 +244,7 @@ fn drawn_at_clearance() -> Vec<Drawn> {
     list
 }
 
-/// The surveys that checks 1 to 8 and 12 decide.
+/// The surveys that checks decide.
 #[allow(clippy::excessive_precision)] // document 01's own number
 pub fn checked() -> Vec<Checked> {
     let checked = Checked::new;
@@ -267,6 +270,7 @@ pub fn checked() -> Vec<Checked> {
         }
     }
     list.extend(open_at_box());
+    list.extend(resounded::checked());
     list
 }
 

@@ -1,11 +1,13 @@
 //! Random lawful surveys. A survey follows from its seed alone, and for the small ones from the most splits too.
 //!
 //! With any outside nearly all are refused for drawing, since some corner on an outer face is wet; with a dry outside
-//! none is. [`mixed`] and [`small_mixed`] have both, for comparing drawings.
+//! none is. [`mixed`] and [`small_mixed`] have both, for comparing drawings. Every second survey has amendments, but for
+//! those of long loops; whatever is said of a survey's soundings is said of those in force.
 
 use std::iter::repeat_with;
 use std::ops::Range;
 
+use crate::amendments::resounded;
 pub use crate::long_loop::long_loop;
 use crate::random::Random;
 use crate::soundings::Soundings;
@@ -116,7 +118,8 @@ fn sounded(random: &mut Random, octree: &Octree, outside: Outside) -> Survey {
         Outside::Dry | Outside::DryBut(_) if on_outer_face(place) => soundings.dry(random),
         _ => soundings.at(random, place),
     };
-    Survey::new(octree, sounding).at(soundings.clearance)
+    let survey = Survey::new(octree, sounding).at(soundings.clearance);
+    resounded(random, &survey)
 }
 
 fn any_size(random: &mut Random) -> Octree {
@@ -131,7 +134,8 @@ fn any_size(random: &mut Random) -> Octree {
 #[cfg(test)]
 mod tests {
     use super::*;
-    use crate::plain::{corners, octree, Edge, Plain};
+    use crate::amendments::some_hold;
+    use crate::plain::{in_force, octree, Edge, Plain};
     use crate::refusals::{first, of_drawing, OPEN_AT_BOX};
 
     type Maker = fn(u64) -> Survey;
@@ -159,7 +163,8 @@ mod tests {
 
     #[test]
     fn a_survey_is_lawful_and_follows_from_its_seed() {
-        let bytes = |survey: Survey| (survey.cells, survey.corners, survey.clearance.to_bits());
+        let bytes =
+            |survey: Survey| (survey.cells, survey.corners, survey.amendments, survey.clearance.to_bits());
         for made in MAKERS {
             for seed in 0..100 {
                 assert_eq!(first(&made(seed)), 0, "seed {seed}");
@@ -179,10 +184,10 @@ mod tests {
 
     /// The places of wet corners on outer faces.
     fn wet_outside(survey: &Survey) -> Vec<[u16; 3]> {
-        let is_wet = |&(place, sounding): &([u16; 3], f32)| {
-            place.iter().any(|at| [0, 1_024].contains(at)) && sounding > survey.clearance
-        };
-        corners(&survey.corners).filter(is_wet).map(|(place, _)| place).collect()
+        let records = in_force(survey).into_iter().map(|held| held.record);
+        let is_outside = |place: [u16; 3]| place.iter().any(|at| [0, 1_024].contains(at));
+        let wet = records.filter(|record| is_outside(record.place) && record.sounding > survey.clearance);
+        wet.map(|record| record.place).collect()
     }
 
     #[test]
@@ -243,7 +248,7 @@ mod tests {
 
     fn any_sounding(shows: impl Fn(f32, f32) -> bool) -> usize {
         count(interior, |survey| {
-            corners(&survey.corners).any(|(_, sounding)| shows(sounding, survey.clearance))
+            in_force(survey).iter().any(|held| shows(held.record.sounding, survey.clearance))
         })
     }
 
@@ -275,6 +280,16 @@ mod tests {
         assert_more(any_sounding(|sounding, clearance| sounding == clearance), 70, "awash");
         let away_from_0 = |sounding: f32, clearance: f32| sounding == clearance && clearance.is_normal();
         assert_more(any_sounding(away_from_0), 30, "awash at a clearance that is not 0");
+    }
+
+    #[test]
+    fn about_every_second_survey_is_amended() {
+        for made in MAKERS {
+            let with_amendments = count(made, |survey| !survey.amendments.is_empty());
+            assert!((160..240).contains(&with_amendments), "{with_amendments} of 400 have amendments");
+            assert_more(count(made, some_hold), 120, "an amendment holds");
+            assert_more(count(made, |survey| survey.amendments.len() == 12_000), 10, "1,000 amendments");
+        }
     }
 
     /// Few splits leave few corners inside the box, and yet most surveys have points, divided edges and twins.

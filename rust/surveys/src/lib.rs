@@ -1,16 +1,20 @@
 //! Surveys to draw, and plain readings of the documents to judge a drawing by.
 //!
 //! - [`document`]: the surveys of document 01 and a few small ones, with what is known of their drawings.
+//! - [`resounded`]: surveys with amendments of which the same is known.
 //! - [`volumes`]: surveys of which the space inside can be said by hand.
 //! - [`generate`]: random lawful surveys, each from one seed.
+//! - [`amendments`]: random days and amendments that leave the soundings in force as they are.
 //! - [`sized`]: surveys of a given number of splits, a kind for each shape that a drawing may be slow on.
 //! - [`damage`]: random damaged surveys, each with the refusal it must meet.
 //! - [`lent`]: what stands in lent slices before a drawing, to see what it touches.
 //! - [`references`]: points to reckon the space inside a drawing from, in the box and beyond it.
-//! - [`tally`]: how many surveys of a comparison were drawn, and how many refused at the box.
-//! - [`refusals`], [`plain`], [`closing`], [`water`]: the documents' checks, their edges and points, "What closing says"
-//!   and the space inside, written for the reader and not for speed, and with nothing shared with any drawing.
+//! - [`tally`]: how many surveys of a comparison were drawn, how many of these by amendments, and how many refused at the
+//!   box.
+//! - [`refusals`], [`plain`], [`closing`], [`water`]: the documents' checks, their edges, points and records in force, "What
+//!   closing says" and the space inside, written for the reader and not for speed, and with nothing shared with any drawing.
 
+pub mod amendments;
 pub mod closing;
 pub mod damage;
 pub mod document;
@@ -22,6 +26,7 @@ pub mod plain;
 pub mod random;
 pub mod references;
 pub mod refusals;
+pub mod resounded;
 pub mod sized;
 mod soundings;
 pub mod survey;

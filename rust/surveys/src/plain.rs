@@ -1,8 +1,9 @@
-//! Document 01's cells, edges and points in its own words, for lawful surveys. Nothing here is fast.
+//! Document 01's cells, edges and points, and document 02's records in force, in their own words, for lawful surveys.
+//! Nothing here is fast.
 
 use std::collections::{BTreeSet, HashMap};
 
-use crate::survey::{Cube, Octree};
+use crate::survey::{Cube, Octree, Record};
 use crate::Survey;
 
 /// An edge of some cell. Edges compare by axis, then the lower end's z, y, x, then length.
@@ -76,7 +77,10 @@ impl Plain {
             leaves: leaves.map(|(&cube, _)| cube).collect(),
             edges: octree.cubes.iter().flat_map(|&cube| edges_of(cube)).collect(),
             carriers: Vec::new(),
-            soundings: corners(&survey.corners).collect(),
+            soundings: in_force(survey)
+                .iter()
+                .map(|held| (held.record.place, held.record.sounding))
+                .collect(),
             clearance: survey.clearance,
         };
         // The set of edges is in the order of the numbers.
@@ -173,11 +177,46 @@ pub fn octree(cells: &[u8]) -> Octree {
     Octree::new(|record, _| entries[record] != 0)
 }
 
-/// The places and soundings of a corner table.
-pub fn corners(corners: &[u8]) -> impl Iterator<Item = ([u16; 3], f32)> + '_ {
-    corners.chunks_exact(10).map(|record| {
-        let number = |at: usize| u16::from_le_bytes(record[at..at + 2].try_into().expect("two bytes"));
-        let sounding = f32::from_le_bytes(record[6..].try_into().expect("four bytes"));
-        ([number(0), number(2), number(4)], sounding)
+/// The records of a corner table or an amendment table.
+pub fn records(table: &[u8]) -> impl Iterator<Item = Record> + '_ {
+    table.chunks_exact(Record::BYTES).map(|record| {
+        let number = |at: usize| u16::from_le_bytes([record[at], record[at + 1]]);
+        Record {
+            place: [number(0), number(2), number(4)],
+            sounding: f32::from_le_bytes(record[6..10].try_into().expect("four bytes")),
+            day: number(10),
+        }
     })
+}
+
+/// A record that holds at its corner.
+#[derive(Clone, Copy, Debug)]
+pub struct Held {
+    /// The record.
+    pub record: Record,
+    /// Its number among the amendments; none if it is the corner table's.
+    pub amendment: Option<usize>,
+}
+
+/// The record in force at each corner, in the order of the corner table, where every amendment is at a corner: document
+/// 02, "Resounding a few corners".
+pub fn in_force(survey: &Survey) -> Vec<Held> {
+    let mut amendments: HashMap<[u16; 3], Vec<Held>> = HashMap::new();
+    for (number, record) in records(&survey.amendments).enumerate() {
+        amendments.entry(record.place).or_default().push(Held { record, amendment: Some(number) });
+    }
+    let holding = |record: Record| {
+        let mut rising = vec![Held { record, amendment: None }];
+        rising.extend(amendments.get(&record.place).into_iter().flatten());
+        strongest(&rising)
+    };
+    records(&survey.corners).map(holding).collect()
+}
+
+/// Of the records for one corner, the corner table's and then the amendments in their order, that which holds: of those of
+/// the highest day the last.
+fn strongest(rising: &[Held]) -> Held {
+    let highest = rising.iter().map(|held| held.record.day).max();
+    let of_highest_day = rising.iter().filter(|held| Some(held.record.day) == highest);
+    *of_highest_day.last().expect("a corner has a record")
 }

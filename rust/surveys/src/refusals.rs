@@ -1,9 +1,14 @@
-//! Checks 1 to 8 in the words of document 01, "Outputs and refusals"; checks 12 and 13 in those of document 02, "Basins
-//! cut off by the box" and "Water in the pool". Nothing here is fast.
+//! Checks 1 to 8 in the words of document 01, "Outputs and refusals"; checks 12 to 15 in those of document 02, "Basins cut
+//! off by the box", "Water in the pool" and "Resounding a few corners". Nothing here is fast.
 
-use crate::plain::{corners, entries, octree};
-use crate::survey::{on_outer_face, DEEPEST};
+use std::collections::BTreeSet;
+
+use crate::plain::{entries, in_force, octree, records};
+use crate::survey::{on_outer_face, Record, DEEPEST};
 use crate::Survey;
+
+/// The checks of a survey and its clearance, in their order.
+pub const ORDER: [u32; 10] = [1, 2, 3, 4, 5, 6, AMENDMENT_TABLE, AMENDMENT_PLACE, 7, 8];
 
 /// The refusal for a wet corner on an outer face, given only where the surface is drawn.
 pub const OPEN_AT_BOX: u32 = 12;
@@ -11,7 +16,13 @@ pub const OPEN_AT_BOX: u32 = 12;
 /// The refusal for a coordinate of the reference point, given by the volume alone.
 pub const REFERENCE: u32 = 13;
 
-/// The first refusal of a drawing that the lent slices have no part in: 1 to 8, then 12; 0 if there is none.
+/// The refusal for an amendment table that is not whole records or too long.
+pub const AMENDMENT_TABLE: u32 = 14;
+
+/// The refusal for an amendment at no cell's corner.
+pub const AMENDMENT_PLACE: u32 = 15;
+
+/// The first refusal of a drawing that the lent slices have no part in: those of [`ORDER`], then 12; 0 if there is none.
 pub fn of_drawing(survey: &Survey) -> u32 {
     match first(survey) {
         0 if is_open_at_box(survey) => OPEN_AT_BOX,
@@ -19,7 +30,7 @@ pub fn of_drawing(survey: &Survey) -> u32 {
     }
 }
 
-/// The first refusal of a volume that the lent slices have no part in: 1 to 8, 12, then 13; 0 if there is none.
+/// The first refusal of a volume that the lent slices have no part in: as of a drawing, then 13; 0 if there is none.
 pub fn of_volume(survey: &Survey, reference: [u32; 3]) -> u32 {
     match of_drawing(survey) {
         0 if reference.iter().any(|&coordinate| coordinate > 1_024) => REFERENCE,
@@ -27,27 +38,35 @@ pub fn of_volume(survey: &Survey, reference: [u32; 3]) -> u32 {
     }
 }
 
-/// The first of checks 1 to 8 that refuses a survey; 0 if none does. An enquiry has no other before 11.
+/// The first of the checks in [`ORDER`] that refuses a survey; 0 if none does. An enquiry has no other before 11.
 pub fn first(survey: &Survey) -> u32 {
-    let refuses: [fn(&Survey) -> bool; 8] = [
-        |survey| survey.cells.is_empty() || survey.cells.len() % 4 != 0 || survey.cells.len() > 8_196,
-        |survey| survey.corners.is_empty() || survey.corners.len() % 10 != 0 || survey.corners.len() > 48_720,
-        |survey| breaks_entry_rule(&entries(&survey.cells).collect::<Vec<_>>()),
-        |survey| splits_too_deep(&entries(&survey.cells).collect::<Vec<_>>(), 0, 0),
-        falls_or_stays,
-        other_corners,
-        |survey| corners(&survey.corners).any(|(_, sounding)| out_of_range(sounding)),
-        |survey| out_of_range(survey.clearance),
-    ];
-    (1..=8).find(|&number| refuses[number - 1](survey)).map_or(0, |number| number as u32)
+    ORDER.into_iter().find(|&number| refuses(number, survey)).unwrap_or(0)
 }
 
-/// What is left of the first refusal of a drawing for the survey by itself: 1 to 7, else 0, since checks 8 and 12 look at
-/// the clearance.
+/// Whether a check refuses a survey that has passed those before it.
+fn refuses(number: u32, survey: &Survey) -> bool {
+    let Survey { cells, corners, amendments, clearance } = survey;
+    match number {
+        1 => cells.is_empty() || cells.len() % 4 != 0 || cells.len() > 8_196,
+        2 => corners.is_empty() || corners.len() % Record::BYTES != 0 || corners.len() > 58_464,
+        3 => breaks_entry_rule(&entries(cells).collect::<Vec<_>>()),
+        4 => splits_too_deep(&entries(cells).collect::<Vec<_>>(), 0, 0),
+        5 => falls_or_stays(survey),
+        6 => other_corners(survey),
+        AMENDMENT_TABLE => amendments.len() % Record::BYTES != 0 || amendments.len() > 12_000,
+        AMENDMENT_PLACE => amends_no_corner(survey),
+        7 => in_force(survey).iter().any(|held| out_of_range(held.record.sounding)),
+        8 => out_of_range(*clearance),
+        _ => panic!("no check of a survey has the number {number}"),
+    }
+}
+
+/// What is left of the first refusal of a drawing for the survey by itself: 1 to 7, 14 and 15, else 0, since checks 8 and
+/// 12 look at the clearance.
 pub fn by_itself(refusal: u32) -> u32 {
     match refusal {
-        1..=7 => refusal,
-        _ => 0,
+        8 | OPEN_AT_BOX => 0,
+        _ => refusal,
     }
 }
 
@@ -69,19 +88,26 @@ fn splits_too_deep(entries: &[usize], record: usize, depth: u32) -> bool {
 }
 
 fn falls_or_stays(survey: &Survey) -> bool {
-    let places: Vec<[u16; 3]> = corners(&survey.corners).map(|([x, y, z], _)| [z, y, x]).collect();
+    let reversed = |Record { place: [x, y, z], .. }| [z, y, x];
+    let places: Vec<[u16; 3]> = records(&survey.corners).map(reversed).collect();
     places.windows(2).any(|pair| pair[0] >= pair[1])
 }
 
 /// Both sides come in the same order, since check 5 has passed.
 fn other_corners(survey: &Survey) -> bool {
-    let places: Vec<[u16; 3]> = corners(&survey.corners).map(|(place, _)| place).collect();
+    let places: Vec<[u16; 3]> = records(&survey.corners).map(|record| record.place).collect();
     places != octree(&survey.cells).corner_places()
+}
+
+fn amends_no_corner(survey: &Survey) -> bool {
+    let places = BTreeSet::from_iter(octree(&survey.cells).corner_places());
+    records(&survey.amendments).any(|amendment| !places.contains(&amendment.place))
 }
 
 /// A survey with a wet corner on an outer face.
 fn is_open_at_box(survey: &Survey) -> bool {
-    corners(&survey.corners).any(|(place, sounding)| on_outer_face(place) && sounding > survey.clearance)
+    let is_wet = |sounding: f32| sounding > survey.clearance;
+    in_force(survey).iter().any(|held| on_outer_face(held.record.place) && is_wet(held.record.sounding))
 }
 
 fn out_of_range(number: f32) -> bool {

@@ -144,3 +144,10 @@ fn any_bits(random: &mut Random) -> f32 {
         }
     }
 }
+
+/// A number that is not finite or out of range: the next beyond, infinities, and NaNs of several patterns.
+pub(crate) fn unlawful(random: &mut Random) -> f32 {
+    let bits = [0x4980_0001, 0x7f7f_ffff, 0x7f80_0000, 0x7f80_0001, 0x7fc0_0000, 0x7fff_ffff];
+    let sign = (random.bits() as u32) << 31;
+    f32::from_bits(random.pick(&bits) | sign)
+}

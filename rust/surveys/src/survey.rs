@@ -1,4 +1,4 @@
-//! Surveys as the two tables and the clearance, and how to make lawful ones.
+//! Surveys as their tables and the clearance, and how to make lawful ones.
 
 use std::collections::BTreeSet;
 
@@ -119,34 +119,66 @@ pub fn too_deep_table(mut place: impl FnMut() -> usize) -> Vec<u8> {
     cell_table(&entries)
 }
 
-/// The ten bytes of a corner record.
-pub fn corner_record(place: [u16; 3], sounding: f32) -> Vec<u8> {
-    let mut record: Vec<u8> = place.iter().flat_map(|coordinate| coordinate.to_le_bytes()).collect();
-    record.extend(sounding.to_le_bytes());
-    record
+/// A record of the corner table, or an amendment: document 02, "Resounding a few corners".
+#[derive(Clone, Copy, Debug)]
+pub struct Record {
+    /// The corner's place: x, y, z.
+    pub place: [u16; 3],
+    /// The sounding there.
+    pub sounding: f32,
+    /// The day on which it was sounded.
+    pub day: u16,
 }
 
-/// A cell table, a corner table and a clearance, lawful or not.
+impl Record {
+    /// The size of a record in bytes.
+    pub const BYTES: usize = 12;
+
+    /// The size that corner records had before they had a day.
+    pub const BYTES_WITHOUT_DAY: usize = 10;
+
+    /// The record as it stands in its table.
+    pub fn bytes(self) -> Vec<u8> {
+        let mut bytes: Vec<u8> = self.place.iter().flat_map(|coordinate| coordinate.to_le_bytes()).collect();
+        bytes.extend(self.sounding.to_le_bytes());
+        bytes.extend(self.day.to_le_bytes());
+        bytes
+    }
+}
+
+/// A table of these records.
+pub fn table(records: impl IntoIterator<Item = Record>) -> Vec<u8> {
+    records.into_iter().flat_map(Record::bytes).collect()
+}
+
+/// A corner table as it was before corner records had a day.
+pub fn without_days(corners: &[u8]) -> Vec<u8> {
+    let records = corners.chunks_exact(Record::BYTES);
+    records.flat_map(|record| &record[..Record::BYTES_WITHOUT_DAY]).copied().collect()
+}
+
+/// A cell table, a corner table, an amendment table and a clearance, lawful or not.
 #[derive(Clone, Debug, PartialEq)]
 pub struct Survey {
     /// The cell table.
     pub cells: Vec<u8>,
     /// The corner table.
     pub corners: Vec<u8>,
+    /// The amendment table.
+    pub amendments: Vec<u8>,
     /// The clearance.
     pub clearance: f32,
 }
 
 impl Survey {
-    /// A survey over an octree at clearance 0, with a sounding for each corner, asked for in record order.
+    /// A survey over an octree at clearance 0, with a sounding for each corner, asked for in record order. All are of day 0, and there are no
+    /// amendments.
     pub fn new(octree: &Octree, mut sounding: impl FnMut([u16; 3]) -> f32) -> Survey {
+        let record = |place| Record { place, sounding: sounding(place), day: 0 };
         Survey {
             cells: octree.cell_table(),
-            corners: octree
-                .corner_places()
-                .into_iter()
-                .flat_map(|place| corner_record(place, sounding(place)))
-                .collect(),
+            corners: table(octree.corner_places().into_iter().map(record)),
+            amendments: Vec::new(),
             clearance: 0.0,
         }
     }
@@ -154,5 +186,10 @@ impl Survey {
     /// The same survey at another clearance.
     pub fn at(self, clearance: f32) -> Survey {
         Survey { clearance, ..self }
+    }
+
+    /// The same survey with these amendments and no others.
+    pub fn amended(self, amendments: impl IntoIterator<Item = Record>) -> Survey {
+        Survey { amendments: table(amendments), ..self }
     }
 }

@@ -4,6 +4,7 @@ use crate::document::{
     awash_around, centre_sounded, centre_wet, level, open_inside_side, opposite_corners_wet, quarter_place,
     twin, two_on_a_line,
 };
+use crate::resounded::{deepened, dried};
 use crate::Survey;
 
 /// A survey that is drawn, and six times the space inside.
@@ -50,6 +51,8 @@ pub fn held() -> Vec<Held> {
             opposite_corners_wet(),
             around([4_096; 3]) + around([2_048, 2_048, 4_096]),
         ),
+        held("deepened by an amendment", deepened(), around([12_288; 3])),
+        held("dried by an amendment", dried(), 0),
         held("two on a line", two_on_a_line(1.0), around([1_024, 512, 512]) + around([3_072, 1_024, 1_024])),
         held("two on a line, uneven", two_on_a_line(2.0), uneven),
     ]
