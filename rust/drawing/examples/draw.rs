@@ -1,4 +1,5 @@
-//! Prints the listing of the survey in a directory: the files `cells`, `corners` and `clearance`, as document 01's drawing program reads them.
+//! Prints the listing of the survey in a directory: the files `cells`, `corners`, `amendments` and `clearance`, as the documents' drawing program reads
+//! them.
 
 use std::path::Path;
 
@@ -9,11 +10,11 @@ fn read(directory: &Path, name: &str) -> Vec<u8> {
 fn main() {
     let directory = std::env::args().nth(1).unwrap_or_else(|| ".".into());
     let directory = Path::new(&directory);
-    // A clearance of another length is refusal 8, after 1 to 7, as a clearance that is not a number is.
+    // A clearance of another length is refusal 8, in its order, as a clearance that is not a number is.
     let clearance = read(directory, "clearance").try_into().map_or(f32::NAN, f32::from_le_bytes);
-    let cells = read(directory, "cells");
-    let corners = read(directory, "corners");
-    match drawing::draw_to_vec(&cells, &corners, clearance) {
+    let [cells, corners, amendments] = ["cells", "corners", "amendments"].map(|name| read(directory, name));
+    let survey = drawing::Survey { cells: &cells, corners: &corners, amendments: &amendments };
+    match drawing::draw_to_vec(survey, clearance) {
         Ok(drawn) => print!("{}", listing(&drawn.points, &drawn.triangles)),
         Err(number) => println!("refused {number}"),
     }

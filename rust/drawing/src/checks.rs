@@ -1,29 +1,37 @@
-//! Checks 1 to 8, in rising number: document 01, "Outputs and refusals". Checks 12 and 13: document 02, "Basins cut off
-//! by the box" and "Water in the pool".
+//! Checks 1 to 8: document 01, "Outputs and refusals". Checks 12 to 15: document 02, "Basins cut off by the box", "Water in
+//! the pool" and "Resounding a few corners".
 
+use crate::amendments::amend;
 use crate::refusal::Refusal;
-use crate::survey::{corner_at, length_at, offset, Cell, Corner, Survey, DEEPEST};
+use crate::survey::{corner_at, length_at, offset, Cell, Corner, Lawful, DEEPEST};
+use crate::Survey;
 
 const CELL_RECORD: usize = 4;
 const MOST_CELLS: usize = 2_049;
-const CORNER_RECORD: usize = 10;
+/// The size of a corner record and of an amendment.
+const CORNER_RECORD: usize = 12;
 const MOST_CORNERS: usize = 4_872;
+const MOST_AMENDMENTS: usize = 1_000;
 const RANGE: f32 = 1_048_576.0;
 
-/// Reads a survey from its two tables: checks 1 to 7.
-pub(crate) fn read(cells: &[u8], corners: &[u8]) -> Result<Survey, Refusal> {
-    refuse_unless(holds_records(cells, CELL_RECORD, MOST_CELLS), Refusal::CellBytes)?;
-    refuse_unless(holds_records(corners, CORNER_RECORD, MOST_CORNERS), Refusal::CornerBytes)?;
+/// Reads a survey from its tables: checks 1 to 6, 14, 15 and 7.
+pub(crate) fn read(Survey { cells, corners, amendments }: Survey) -> Result<Lawful, Refusal> {
+    let lawful_cells = !cells.is_empty() && holds_records(cells, CELL_RECORD, MOST_CELLS);
+    refuse_unless(lawful_cells, Refusal::CellBytes)?;
+    let lawful_corners = !corners.is_empty() && holds_records(corners, CORNER_RECORD, MOST_CORNERS);
+    refuse_unless(lawful_corners, Refusal::CornerBytes)?;
     let entries: Vec<usize> = cells.chunks_exact(CELL_RECORD).map(entry).collect();
     refuse_unless(entries_follow_rule(&entries), Refusal::CellEntry)?;
     let cells = place_cells(&entries)?;
-    let corners: Vec<Corner> = corners.chunks_exact(CORNER_RECORD).map(corner).collect();
+    let mut corners = read_corners(corners);
     let rising = corners.windows(2).all(|pair| pair[0].rank() < pair[1].rank());
     refuse_unless(rising, Refusal::CornerOrder)?;
     let cell_corners = match_corners(&cells, &corners)?;
+    refuse_unless(holds_records(amendments, CORNER_RECORD, MOST_AMENDMENTS), Refusal::AmendmentBytes)?;
+    amend(&mut corners, &read_corners(amendments))?;
     let sounded = corners.iter().all(|corner| in_range(corner.sounding));
     refuse_unless(sounded, Refusal::Sounding)?;
-    Ok(Survey { cells, corners, cell_corners })
+    Ok(Lawful { cells, corners, cell_corners })
 }
 
 /// Check 8.
@@ -32,7 +40,7 @@ pub(crate) fn clearance(clearance: f32) -> Result<(), Refusal> {
 }
 
 /// Check 12, of a drawing and its volume: no corner on an outer face of the box is wet.
-pub(crate) fn closed_at_box(survey: &Survey, clearance: f32) -> Result<(), Refusal> {
+pub(crate) fn closed_at_box(survey: &Lawful, clearance: f32) -> Result<(), Refusal> {
     let is_open = |corner: &Corner| corner.is_on_outer_face() && corner.is_wet(clearance);
     refuse_unless(!survey.corners.iter().any(is_open), Refusal::OpenAtBox)
 }
@@ -52,19 +60,21 @@ fn refuse_unless(lawful: bool, refusal: Refusal) -> Result<(), Refusal> {
 }
 
 fn holds_records(table: &[u8], record: usize, most: usize) -> bool {
-    !table.is_empty() && table.len().is_multiple_of(record) && table.len() / record <= most
+    table.len().is_multiple_of(record) && table.len() / record <= most
 }
 
 fn entry(record: &[u8]) -> usize {
     u32::from_le_bytes([record[0], record[1], record[2], record[3]]) as usize
 }
 
-fn corner(record: &[u8]) -> Corner {
-    let coordinate = |axis: usize| u16::from_le_bytes([record[2 * axis], record[2 * axis + 1]]);
-    Corner {
-        place: [coordinate(0), coordinate(1), coordinate(2)],
-        sounding: f32::from_le_bytes([record[6], record[7], record[8], record[9]]),
-    }
+/// The records of a corner table or an amendment table.
+fn read_corners(table: &[u8]) -> Vec<Corner> {
+    let corner = |record: &[u8]| {
+        let number = |at: usize| u16::from_le_bytes([record[at], record[at + 1]]);
+        let sounding = f32::from_le_bytes([record[6], record[7], record[8], record[9]]);
+        Corner { place: [number(0), number(2), number(4)], sounding, day: number(10) }
+    };
+    table.chunks_exact(CORNER_RECORD).map(corner).collect()
 }
 
 /// A NaN is in no range, since no comparison with it holds.

@@ -1,12 +1,12 @@
 //! Crossing points: numbers, twins and places. Document 01, "Edges, points and places".
 
 use crate::edges::{EdgeId, EdgeTrees, TreeEdge};
-use crate::survey::{length_at, Corner, Survey};
+use crate::survey::{length_at, Corner, Lawful};
 use crate::End;
 
 /// The crossing points of a survey at one clearance.
 pub(crate) struct Crossings<'a> {
-    pub(crate) survey: &'a Survey,
+    pub(crate) survey: &'a Lawful,
     pub(crate) trees: &'a EdgeTrees,
     clearance: f32,
     /// Wetness by corner record.
@@ -19,7 +19,7 @@ pub(crate) struct Crossings<'a> {
 
 impl<'a> Crossings<'a> {
     /// Numbers the points: edges stand in the order of the numbers already.
-    pub(crate) fn on(survey: &'a Survey, trees: &'a EdgeTrees, clearance: f32) -> Crossings<'a> {
+    pub(crate) fn on(survey: &'a Lawful, trees: &'a EdgeTrees, clearance: f32) -> Crossings<'a> {
         let wet = survey.corners.iter().map(|corner| corner.is_wet(clearance)).collect();
         let mut crossings =
             Crossings { survey, trees, clearance, wet, carriers: Vec::new(), numbers: vec![0; trees.len()] };

@@ -2,7 +2,7 @@
 //!
 //! They depend on the cells alone, not on soundings or clearance.
 
-use crate::survey::{corner_at, Cell, Survey, DEEPEST};
+use crate::survey::{corner_at, Cell, Lawful, DEEPEST};
 
 /// The index of an edge in [`EdgeTrees`].
 pub(crate) type EdgeId = usize;
@@ -43,7 +43,7 @@ impl std::ops::Index<EdgeId> for EdgeTrees {
 
 impl EdgeTrees {
     /// The edge-trees over the cells of a survey.
-    pub(crate) fn over(survey: &Survey) -> EdgeTrees {
+    pub(crate) fn over(survey: &Lawful) -> EdgeTrees {
         let mut keys = Vec::with_capacity(CELL_EDGES.len() * survey.cells.len());
         for (cell, corners) in survey.cells.iter().zip(&survey.cell_corners) {
             keys.extend(cell_edges(cell, corners));
@@ -71,7 +71,7 @@ impl EdgeTrees {
     /// The edge with this axis, lower end and length, if some cell has it. Any numbers may be asked about.
     pub(crate) fn find_by_place(
         &self,
-        survey: &Survey,
+        survey: &Lawful,
         axis: u32,
         [x, y, z]: [u32; 3],
         length: u32,

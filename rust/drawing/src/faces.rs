@@ -1,7 +1,7 @@
 //! Small faces and their steps: document 01, "Steps and loops".
 
 use crate::crossings::Crossings;
-use crate::survey::{Side, Survey};
+use crate::survey::{Lawful, Side};
 
 /// A step from one point to another.
 pub(crate) type Step = [u32; 2];
@@ -52,7 +52,7 @@ pub(crate) fn leaf_steps(
     }
 }
 
-fn split_across(survey: &Survey, leaf: usize, side: Side) -> Option<usize> {
+fn split_across(survey: &Lawful, leaf: usize, side: Side) -> Option<usize> {
     survey.across(leaf, side).filter(|&cell| survey.cells[cell].first_child.is_some())
 }
 

@@ -1,14 +1,15 @@
 //! Clearance surfaces over a lock survey: a drawing of the rules of document 01, with what document 02 adds and
 //! changes.
 //!
-//! A survey is a cell table (an octree) and a corner table (a sounding at every corner of every cell). At a
-//! given clearance the surface between wet and dry corners is drawn as points on the octree's edges and
+//! A survey is a cell table (an octree), a corner table (a sounding at every corner of every cell) and amendments to that.
+//! At a given clearance the surface between wet and dry corners is drawn as points on the octree's edges and
 //! triangles between them. The method is that of document 003: edge-trees over an arbitrary octree.
 //!
-//! The modules follow the way of the data: [`check`] reads a survey; edge-trees are built over its cells;
+//! The modules follow the way of the data: [`check`] reads a survey and amends it; edge-trees are built over its cells;
 //! crossing points are numbered on them; face steps and twin steps make the loops of each leaf; loops are cut
 //! into triangles; and the space inside these is reckoned.
 
+mod amendments;
 mod checks;
 mod crossings;
 mod edges;
@@ -24,6 +25,17 @@ use edges::EdgeTrees;
 pub use outputs::{Drawing, Drawn};
 use refusal::Refusal;
 pub use volume::Water;
+
+/// The tables of a survey, lawful or not.
+#[derive(Clone, Copy, Debug)]
+pub struct Survey<'a> {
+    /// The cell table.
+    pub cells: &'a [u8],
+    /// The corner table.
+    pub corners: &'a [u8],
+    /// The amendment table: document 02, "Resounding a few corners".
+    pub amendments: &'a [u8],
+}
 
 /// An end of an edge.
 #[derive(Clone, Copy, Debug, PartialEq, Eq)]
@@ -50,30 +62,26 @@ pub enum Edge {
     },
 }
 
-/// Checks a survey by itself: 0 if lawful, else the first refusal of 1 to 7 that applies.
-pub fn check(cells: &[u8], corners: &[u8]) -> u32 {
-    checks::read(cells, corners).map_or_else(Refusal::number, |_| 0)
+/// Checks a survey by itself: 0 if lawful, else the first refusal of 1 to 6, 14, 15 and 7, in this order, that applies.
+pub fn check(survey: Survey) -> u32 {
+    checks::read(survey).map_or_else(Refusal::number, |_| 0)
 }
 
-/// Answers for the edge of some cell that runs along `axis` from (x, y, z) over `length`.
+/// Answers for the edge of some cell that runs along `axis` from its lower end (x, y, z) over `length`.
 ///
-/// The refusals are 1 to 8, then 11 where no cell has this edge.
-#[allow(clippy::too_many_arguments)] // the arguments of document 01's enquiry, each a plain number
+/// The refusals are those of [`check`], then 8, then 11 where no cell has this edge.
 pub fn enquire(
-    cells: &[u8],
-    corners: &[u8],
+    survey: Survey,
     clearance: f32,
     axis: u32,
-    x: u32,
-    y: u32,
-    z: u32,
+    lower_end: [u32; 3],
     length: u32,
 ) -> Result<Edge, u32> {
     let answer = || {
-        let survey = checks::read(cells, corners)?;
+        let survey = checks::read(survey)?;
         checks::clearance(clearance)?;
         let trees = EdgeTrees::over(&survey);
-        let edge = trees.find_by_place(&survey, axis, [x, y, z], length).ok_or(Refusal::NoEdge)?;
+        let edge = trees.find_by_place(&survey, axis, lower_end, length).ok_or(Refusal::NoEdge)?;
         let crossings = Crossings::on(&survey, &trees, clearance);
         Ok(crossings.point_of(edge).map_or(Edge::Even, |number| Edge::Crossing {
             number,
@@ -87,38 +95,31 @@ pub fn enquire(
 /// Draws the surface into lent slices: document 01, "Outputs and refusals".
 ///
 /// Points take three elements each, triangles three each; elements past the last are untouched. A refusal
-/// (1 to 8, 12, 9 or 10, in this order) touches neither slice.
-pub fn draw(
-    cells: &[u8],
-    corners: &[u8],
-    clearance: f32,
-    points: &mut [f32],
-    triangles: &mut [u32],
-) -> Drawn {
-    match outputs::drawing(cells, corners, clearance) {
+/// (those of [`check`], then 8, 12, 9 and 10) touches neither slice.
+pub fn draw(survey: Survey, clearance: f32, points: &mut [f32], triangles: &mut [u32]) -> Drawn {
+    match outputs::drawing(survey, clearance) {
         Ok(drawing) => drawing.write(points, triangles),
         Err(refusal) => Drawn::refused(refusal),
     }
 }
 
-/// Draws the surface into vectors of its own. The refusals are 1 to 8, then 12.
-pub fn draw_to_vec(cells: &[u8], corners: &[u8], clearance: f32) -> Result<Drawing, u32> {
-    outputs::drawing(cells, corners, clearance).map_err(Refusal::number)
+/// Draws the surface into vectors of its own. The refusals are those of [`check`], then 8 and 12.
+pub fn draw_to_vec(survey: Survey, clearance: f32) -> Result<Drawing, u32> {
+    outputs::drawing(survey, clearance).map_err(Refusal::number)
 }
 
 /// Draws the surface into lent slices as [`draw`] does, and reckons the space inside from a reference point: document
 /// 02, "Water in the pool".
 ///
-/// The refusals are 1 to 8, 12, 13, 9 and 10, in this order.
+/// The refusals are those of [`check`], then 8, 12, 13, 9 and 10.
 pub fn volume(
-    cells: &[u8],
-    corners: &[u8],
+    survey: Survey,
     clearance: f32,
     reference: [u32; 3],
     points: &mut [f32],
     triangles: &mut [u32],
 ) -> Water {
-    let drawing = outputs::drawing(cells, corners, clearance);
+    let drawing = outputs::drawing(survey, clearance);
     match drawing.and_then(|drawing| checks::reference(reference).map(|()| drawing)) {
         Ok(drawing) => {
             let drawn = drawing.write(points, triangles);

@@ -5,6 +5,7 @@ use crate::crossings::Crossings;
 use crate::edges::EdgeTrees;
 use crate::loops::LoopWalk;
 use crate::refusal::Refusal;
+use crate::Survey;
 
 /// A drawn surface.
 #[derive(Clone, Debug, Default, PartialEq)]
@@ -27,7 +28,7 @@ pub struct Drawn {
 }
 
 impl Drawn {
-    /// Refusals 1 to 8, 12 and 13 give no counts.
+    /// Only refusals 9 and 10 give counts.
     pub(crate) fn refused(refusal: Refusal) -> Drawn {
         Drawn { number: refusal.number(), points: 0, triangles: 0 }
     }
@@ -41,9 +42,9 @@ impl Drawn {
     }
 }
 
-/// Draws a survey at a clearance: checks 1 to 8 and 12, then all points and all triangles.
-pub(crate) fn drawing(cells: &[u8], corners: &[u8], clearance: f32) -> Result<Drawing, Refusal> {
-    let survey = checks::read(cells, corners)?;
+/// Draws a survey at a clearance: every check before those of reference and slices, then all points and all triangles.
+pub(crate) fn drawing(survey: Survey, clearance: f32) -> Result<Drawing, Refusal> {
+    let survey = checks::read(survey)?;
     checks::clearance(clearance)?;
     checks::closed_at_box(&survey, clearance)?;
     let trees = EdgeTrees::over(&survey);

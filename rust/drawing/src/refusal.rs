@@ -1,7 +1,7 @@
 //! The refusals of document 01's table and document 02's requests, by name.
 
 /// Why a survey, a clearance, a lent slice, an edge or a reference point is refused. Checks run in rising number, but
-/// for 12 and 13, which stand between 8 and 9.
+/// for 12 and 13, which stand between 8 and 9, and 14 and 15, which stand between 6 and 7.
 #[derive(Clone, Copy, Debug, PartialEq, Eq)]
 #[repr(u32)]
 pub(crate) enum Refusal {
@@ -17,7 +17,7 @@ pub(crate) enum Refusal {
     CornerOrder = 5,
     /// A cell's corner is missing, or a record is no cell's corner.
     CornerSet = 6,
-    /// A sounding is not finite or out of range.
+    /// A sounding in force is not finite or out of range.
     Sounding = 7,
     /// The clearance is not finite or out of range.
     Clearance = 8,
@@ -31,6 +31,10 @@ pub(crate) enum Refusal {
     OpenAtBox = 12,
     /// A coordinate of the reference point is above 1,024.
     Reference = 13,
+    /// The amendment table is not whole records, or too long.
+    AmendmentBytes = 14,
+    /// An amendment is at no cell's corner.
+    AmendmentPlace = 15,
 }
 
 impl Refusal {

@@ -1,13 +1,14 @@
-//! A survey that has passed checks 1 to 7: document 01, "The survey".
+//! A survey that has passed every check of the survey by itself: document 01, "The survey".
 
 /// The depth of the smallest cells.
 pub(crate) const DEEPEST: u8 = 10;
 
-/// A corner with its place and its sounding.
+/// A corner with its place, its sounding and the day on which it was sounded.
 #[derive(Clone, Copy, Debug)]
 pub(crate) struct Corner {
     pub(crate) place: [u16; 3],
     pub(crate) sounding: f32,
+    pub(crate) day: u16,
 }
 
 impl Corner {
@@ -36,7 +37,7 @@ pub(crate) fn corner_at(corners: &[Corner], place: [u16; 3]) -> Option<usize> {
     corners.binary_search_by_key(&rank(place), |corner| corner.rank()).ok()
 }
 
-/// A cell of the octree. Its record number is its index in [`Survey::cells`].
+/// A cell of the octree. Its record number is its index in [`Lawful::cells`].
 #[derive(Clone, Copy, Debug)]
 pub(crate) struct Cell {
     /// The corner with the lowest coordinates.
@@ -111,16 +112,16 @@ impl Side {
 
 /// A lawful survey.
 #[derive(Debug)]
-pub(crate) struct Survey {
+pub(crate) struct Lawful {
     /// The cells by record number.
     pub(crate) cells: Vec<Cell>,
-    /// The corners by record number.
+    /// The corners by record number, each as it is in force.
     pub(crate) corners: Vec<Corner>,
     /// For each cell, the records of its eight corners by place.
     pub(crate) cell_corners: Vec<[u16; 8]>,
 }
 
-impl Survey {
+impl Lawful {
     /// The cell of the same size across a side of a cell, if there is one.
     pub(crate) fn across(&self, cell: usize, side: Side) -> Option<usize> {
         let Cell { mut low, level, .. } = self.cells[cell];

@@ -3,6 +3,7 @@
 
 mod answers;
 mod plain_drawing;
+mod tables;
 
 use answers::{ask, plain_answer};
 use drawing::{draw_to_vec, Drawing, Edge, End};
@@ -14,10 +15,11 @@ use surveys::plain::{self, Plain};
 use surveys::refusals::{self, OPEN_AT_BOX};
 use surveys::tally::Tally;
 use surveys::{document, generate, Survey};
+use tables::tables;
 
 /// The drawing of a survey; none if it is refused by 12, which must be as the plain checks say.
 fn drawing(survey: &Survey, what: &str) -> Option<Drawing> {
-    let drawn = draw_to_vec(&survey.cells, &survey.corners, survey.clearance);
+    let drawn = draw_to_vec(tables(survey), survey.clearance);
     match refusals::of_drawing(survey) {
         0 => Some(drawn.unwrap_or_else(|number| panic!("{what}: refusal {number}, and no check refuses it"))),
         refusal => {
@@ -37,7 +39,7 @@ fn for_drawn(
     for (what, survey) in surveys {
         match drawing(&survey, &what) {
             Some(drawing) => {
-                tally.add_drawn(drawing.points.len() / 3);
+                tally.add_drawn(&survey, drawing.points.len() / 3);
                 visit(&survey, &drawing, &what);
             }
             None => tally.add_open(),
@@ -127,7 +129,7 @@ fn every_enquiry_is_answered_as_the_plain_edges_say() {
     for (what, survey) in any_outside.chain(dry_outside) {
         open += usize::from(drawing(&survey, &what).is_none());
         let plain = Plain::read(&survey);
-        for (place, _) in plain::corners(&survey.corners) {
+        for place in plain::records(&survey.corners).map(|record| record.place) {
             for (axis, shift) in (0..3).flat_map(|axis| (0..=10).map(move |shift| (axis, shift))) {
                 let edge = plain::Edge::new(axis, place, 1 << shift);
                 assert_eq!(ask(&survey, edge), plain_answer(&plain, edge), "{what}: {edge:?}");

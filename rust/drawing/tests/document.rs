@@ -1,21 +1,24 @@
 //! The surveys of document 01, "Surveys to try", and the small ones beside them.
 
+mod tables;
+
 use drawing::{check, draw, draw_to_vec, enquire, Drawn, Edge, End};
 use surveys::lent::{self, bits};
 use surveys::{closing, document, Survey};
+use tables::tables;
 
 fn refusal(survey: &Survey) -> u32 {
-    draw_to_vec(&survey.cells, &survey.corners, survey.clearance).map_or_else(|number| number, |_| 0)
+    draw_to_vec(tables(survey), survey.clearance).map_or_else(|number| number, |_| 0)
 }
 
-fn ask(survey: &Survey, axis: u32, [x, y, z]: [u32; 3], length: u32) -> Result<Edge, u32> {
-    enquire(&survey.cells, &survey.corners, survey.clearance, axis, x, y, z, length)
+fn ask(survey: &Survey, axis: u32, lower_end: [u32; 3], length: u32) -> Result<Edge, u32> {
+    enquire(tables(survey), survey.clearance, axis, lower_end, length)
 }
 
 #[test]
 fn drawings_are_exactly_those_of_the_document() {
     for document::Drawn { name, survey, points, triangles } in document::drawn() {
-        let drawing = draw_to_vec(&survey.cells, &survey.corners, survey.clearance).expect(&name);
+        let drawing = draw_to_vec(tables(&survey), survey.clearance).expect(&name);
         assert_eq!(bits(&drawing.points), bits(&points.concat()), "{name}: points {:?}", drawing.points);
         assert_eq!(drawing.triangles, triangles.concat(), "{name}: triangles");
         assert_eq!(closing::check(&survey, &drawing.points, &drawing.triangles), Ok(()), "{name}");
@@ -27,24 +30,24 @@ fn checks_decide_as_the_document_says() {
     for example in document::checked() {
         let document::Checked { name, survey, refusal: expected } = &example;
         assert_eq!(refusal(survey), *expected, "{name}");
-        assert_eq!(check(&survey.cells, &survey.corners), example.by_itself(), "{name}, by itself");
+        assert_eq!(check(tables(survey)), example.by_itself(), "{name}, by itself");
     }
 }
 
 #[test]
 fn the_surveys_have_the_sizes_that_the_document_gives() {
     assert_eq!(document::twin().cells.len(), 17 * 4);
-    assert_eq!(document::twin().corners.len(), 46 * 10);
-    assert_eq!(document::two_on_a_line(1.0).corners.len(), 84 * 10);
+    assert_eq!(document::twin().corners.len(), 46 * 12);
+    assert_eq!(document::two_on_a_line(1.0).corners.len(), 84 * 12);
     assert_eq!(document::full().cells.len(), 2_049 * 4);
     assert_eq!(document::too_many_cells().cells.len(), 8_200);
 }
 
 /// Draws the survey with only the centre wet into slices of these lengths.
 fn draw_centre(point_room: usize, triangle_room: usize) -> (Drawn, Vec<f32>, Vec<u32>) {
-    let Survey { cells, corners, clearance } = document::centre_wet();
+    let survey = document::centre_wet();
     let (mut points, mut triangles) = (lent::floats(point_room), lent::numbers(triangle_room));
-    let drawn = draw(&cells, &corners, clearance, &mut points, &mut triangles);
+    let drawn = draw(tables(&survey), survey.clearance, &mut points, &mut triangles);
     (drawn, points, triangles)
 }
 
@@ -52,7 +55,7 @@ fn draw_centre(point_room: usize, triangle_room: usize) -> (Drawn, Vec<f32>, Vec
 fn slices_of_18_and_24_are_enough() {
     let (drawn, points, triangles) = draw_centre(18, 24);
     assert_eq!(drawn, Drawn { number: 0, points: 6, triangles: 8 });
-    let vectors = draw_to_vec(&document::centre_wet().cells, &document::centre_wet().corners, 0.0).unwrap();
+    let vectors = draw_to_vec(tables(&document::centre_wet()), 0.0).unwrap();
     assert_eq!(points, vectors.points);
     assert_eq!(triangles, vectors.triangles);
 }
@@ -85,8 +88,8 @@ fn elements_past_the_last_are_untouched() {
 
 #[test]
 fn a_survey_without_points_needs_no_slices() {
-    let Survey { cells, corners, clearance } = document::level(-1.0);
-    let drawn = draw(&cells, &corners, clearance, &mut [], &mut []);
+    let survey = document::level(-1.0);
+    let drawn = draw(tables(&survey), survey.clearance, &mut [], &mut []);
     assert_eq!(drawn, Drawn { number: 0, points: 0, triangles: 0 });
 }
 

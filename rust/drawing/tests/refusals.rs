@@ -2,6 +2,7 @@
 //! must, by every call, and no lent slice is touched.
 
 mod answers;
+mod tables;
 
 use answers::{ask, plain_answer};
 use drawing::{check, draw, draw_to_vec, enquire, volume, Drawn, Edge, Water};
@@ -9,15 +10,15 @@ use surveys::lent::lend;
 use surveys::plain::Plain;
 use surveys::refusals::{self, OPEN_AT_BOX, REFERENCE};
 use surveys::{damage, document, generate, references, Survey};
+use tables::tables;
 
 /// Lengths of lent slices: enough for a small drawing, too short for points, for triangles, for both.
 const ROOMS: [[usize; 2]; 4] = [[64, 64], [0, 64], [64, 0], [0, 0]];
 
 /// Draws into slices of these lengths. A refused drawing must leave every bit of both as it was.
 fn drawn(survey: &Survey, [point_room, triangle_room]: [usize; 2], what: &str) -> Drawn {
-    let Survey { cells, corners, clearance } = survey;
     let (drawn, ..) = lend(point_room, triangle_room, what, |points, triangles| {
-        let drawn = draw(cells, corners, *clearance, points, triangles);
+        let drawn = draw(tables(survey), survey.clearance, points, triangles);
         (drawn, drawn.written())
     });
     drawn
@@ -25,9 +26,8 @@ fn drawn(survey: &Survey, [point_room, triangle_room]: [usize; 2], what: &str) -
 
 /// Reckons the space inside, as [`drawn`] draws.
 fn reckoned(survey: &Survey, reference: [u32; 3], rooms: [usize; 2], what: &str) -> Water {
-    let Survey { cells, corners, clearance } = survey;
     let (water, ..) = lend(rooms[0], rooms[1], what, |points, triangles| {
-        let water = volume(cells, corners, *clearance, reference, points, triangles);
+        let water = volume(tables(survey), survey.clearance, reference, points, triangles);
         (water, water.drawn.written())
     });
     water
@@ -47,24 +47,22 @@ fn assert_not_drawn(survey: &Survey, refusal: u32, rooms: [usize; 2], what: &str
     }
 }
 
-/// Asks every call about a survey that meets this refusal of 1 to 8.
+/// Asks every call about a survey that meets this refusal of the checks before 12.
 fn assert_refused(survey: &Survey, refusal: u32, what: &str) {
-    let Survey { cells, corners, clearance } = survey;
     assert_not_drawn(survey, refusal, [64, 64], what);
-    assert_eq!(check(cells, corners), refusals::by_itself(refusal), "{what}: by itself");
-    let enquiry = enquire(cells, corners, *clearance, 0, 0, 0, 0, 1024);
+    assert_eq!(check(tables(survey)), refusals::by_itself(refusal), "{what}: by itself");
+    let enquiry = enquire(tables(survey), survey.clearance, 0, [0; 3], 1024);
     assert_eq!(enquiry, Err(refusal), "{what}: enquiry");
 }
 
 /// Draws a survey with a wet corner on an outer face into slices of several lengths, then makes the other calls, which
 /// serve it. Gives back how many of the edges asked about are crossing.
 fn assert_open(survey: &Survey, what: &str) -> usize {
-    let Survey { cells, corners, clearance } = survey;
     for rooms in ROOMS {
         assert_not_drawn(survey, OPEN_AT_BOX, rooms, what);
     }
-    assert_eq!(draw_to_vec(cells, corners, *clearance), Err(OPEN_AT_BOX), "{what}: into vectors");
-    assert_eq!(check(cells, corners), 0, "{what}: by itself");
+    assert_eq!(draw_to_vec(tables(survey), survey.clearance), Err(OPEN_AT_BOX), "{what}: into vectors");
+    assert_eq!(check(tables(survey)), 0, "{what}: by itself");
     let plain = Plain::read(survey);
     let few = plain.edges.iter().step_by(1 + plain.edges.len() / 30);
     let answer = |&edge| {
@@ -100,7 +98,7 @@ fn checks_7_and_8_come_before_12() {
 
 #[test]
 fn each_refusal_is_given_where_it_applies() {
-    for refusal in 1..=8 {
+    for refusal in refusals::ORDER {
         for seed in 0..200 {
             let damaged = damage::damaged_for(refusal, seed);
             assert_eq!(damaged.refusal, refusal, "seed {seed}");
@@ -110,7 +108,7 @@ fn each_refusal_is_given_where_it_applies() {
 }
 
 #[test]
-fn of_several_refusals_the_lowest_is_given() {
+fn of_several_refusals_the_first_in_order_is_given() {
     for seed in 0..2_000 {
         let damaged = damage::damaged(seed);
         assert_refused(&damaged.survey, damaged.refusal, &format!("seed {seed}"));
@@ -119,7 +117,7 @@ fn of_several_refusals_the_lowest_is_given() {
 
 #[test]
 fn corrupted_tables_are_refused_as_the_plain_checks_say() {
-    let mut met = [0; 13];
+    let mut met = [0; 16];
     for seed in 0..20_000 {
         let survey = damage::corrupted(seed);
         let what = format!("seed {seed}");
@@ -127,14 +125,14 @@ fn corrupted_tables_are_refused_as_the_plain_checks_say() {
         met[refusal as usize] += 1;
         match refusal {
             0 => {
-                assert_eq!(check(&survey.cells, &survey.corners), 0, "{what}");
+                assert_eq!(check(tables(&survey)), 0, "{what}");
                 assert!([0, 9, 10].contains(&drawn(&survey, [64, 64], &what).number), "{what}");
             }
             OPEN_AT_BOX => _ = assert_open(&survey, &what),
             _ => assert_refused(&survey, refusal, &what),
         }
     }
-    for refusal in [0, 1, 2, 3, 5, 6, 7, 8, 12] {
+    for refusal in [0, 1, 2, 3, 5, 6, 7, 8, 12, 14, 15] {
         assert!(met[refusal] > 20, "refusal {refusal} was met {} times", met[refusal]);
     }
 }

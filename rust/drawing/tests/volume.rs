@@ -1,6 +1,8 @@
 //! The space inside drawings: as said by hand, as upright prisms have it, and the same from every reference point. Each failure names the generator and
 //! the seed that make the survey again.
 
+mod tables;
+
 use drawing::{draw_to_vec, volume, Drawing, Drawn, Water};
 use surveys::generate::{self, named};
 use surveys::lent::{bits, lend};
@@ -8,18 +10,18 @@ use surveys::plain::Plain;
 use surveys::refusals::{self, OPEN_AT_BOX};
 use surveys::tally::Tally;
 use surveys::{references, volumes, water, Survey};
+use tables::tables;
 
 /// Draws into vectors, and reckons the space inside from every reference; the slices are those of the drawing alone, and the sums one. Gives back the
 /// drawing and the sum.
 fn reckoned(survey: &Survey, seed: u64, what: &str) -> (Drawing, i128) {
-    let Survey { cells, corners, clearance } = survey;
-    let drawing = draw_to_vec(cells, corners, *clearance).expect(what);
+    let drawing = draw_to_vec(tables(survey), survey.clearance).expect(what);
     let (points, triangles) = (drawing.points.len(), drawing.triangles.len());
     let drawn = Drawn { number: 0, points: points as u32 / 3, triangles: triangles as u32 / 3 };
     let sixfold = water::sixfold(&drawing.points, &drawing.triangles);
     for reference in references::of_box(seed) {
         let (water, floats, numbers) = lend(points, triangles, what, |points, triangles| {
-            let water = volume(cells, corners, *clearance, reference, points, triangles);
+            let water = volume(tables(survey), survey.clearance, reference, points, triangles);
             (water, water.drawn.written())
         });
         assert_eq!(water, Water { drawn, sixfold }, "{what}: from {reference:?}");
@@ -50,7 +52,7 @@ fn random_surveys_hold_the_same_from_every_reference() {
         let (drawing, sixfold) = reckoned(&survey, seed, &what);
         // Not proved: seen of all surveys tried.
         assert!(sixfold >= 0, "{what}: {sixfold}");
-        tally.add_drawn(drawing.points.len() / 3);
+        tally.add_drawn(&survey, drawing.points.len() / 3);
         spaces += usize::from(sixfold > 0);
     }
     tally.assert_most_drawn("the space inside");

@@ -217,6 +217,5 @@ pub fn in_force(survey: &Survey) -> Vec<Held> {
 /// the highest day the last.
 fn strongest(rising: &[Held]) -> Held {
     let highest = rising.iter().map(|held| held.record.day).max();
-    let of_highest_day = rising.iter().filter(|held| Some(held.record.day) == highest);
-    *of_highest_day.last().expect("a corner has a record")
+    *rising.iter().rfind(|held| Some(held.record.day) == highest).expect("a corner has a record")
 }

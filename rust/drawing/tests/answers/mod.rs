@@ -4,11 +4,12 @@ use drawing::{enquire, Edge, End};
 use surveys::plain::{self, Plain};
 use surveys::Survey;
 
+use crate::tables::tables;
+
 /// Asks about an edge that some cell has, or none.
 pub fn ask(survey: &Survey, edge: plain::Edge) -> Result<Edge, u32> {
-    let Survey { cells, corners, clearance } = survey;
-    let [x, y, z] = edge.low().map(u32::from);
-    enquire(cells, corners, *clearance, edge.axis as u32, x, y, z, u32::from(edge.length))
+    let low = edge.low().map(u32::from);
+    enquire(tables(survey), survey.clearance, edge.axis as u32, low, u32::from(edge.length))
 }
 
 /// The answer that is due.
