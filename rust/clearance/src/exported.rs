@@ -1,6 +1,26 @@
 //! The C interface of the proved static library, `include/clearance.h`, and the only module with unsafe code: each call made safe by itself. A slice
 //! passes as a pointer and a length; the pointer of an empty slice is not null and is not followed.
 
+use crate::Survey;
+
+/// An edge to ask about.
+#[repr(C)]
+pub struct Edge {
+    pub axis: u32,
+    pub x: u32,
+    pub y: u32,
+    pub z: u32,
+    pub length: u32,
+}
+
+/// The point from which a volume is reckoned.
+#[repr(C)]
+pub struct Reference {
+    pub x: u32,
+    pub y: u32,
+    pub z: u32,
+}
+
 /// The enquiry's answer as plain numbers.
 #[repr(C)]
 pub struct Reply {
@@ -36,6 +56,8 @@ extern "C" {
         cells_length: usize,
         corners: *const u8,
         corners_length: usize,
+        amendments: *const u8,
+        amendments_length: usize,
     ) -> u32;
 
     fn clearance_enquire(
@@ -43,12 +65,10 @@ extern "C" {
         cells_length: usize,
         corners: *const u8,
         corners_length: usize,
+        amendments: *const u8,
+        amendments_length: usize,
         clearance: f32,
-        axis: u32,
-        x: u32,
-        y: u32,
-        z: u32,
-        length: u32,
+        edge: Edge,
     ) -> Reply;
 
     fn clearance_draw(
@@ -56,6 +76,8 @@ extern "C" {
         cells_length: usize,
         corners: *const u8,
         corners_length: usize,
+        amendments: *const u8,
+        amendments_length: usize,
         clearance: f32,
         points: *mut f32,
         points_length: usize,
@@ -68,10 +90,10 @@ extern "C" {
         cells_length: usize,
         corners: *const u8,
         corners_length: usize,
+        amendments: *const u8,
+        amendments_length: usize,
         clearance: f32,
-        x: u32,
-        y: u32,
-        z: u32,
+        reference: Reference,
         points: *mut f32,
         points_length: usize,
         triangles: *mut u32,
@@ -79,39 +101,38 @@ extern "C" {
     ) -> Water;
 }
 
-pub fn check(cells: &[u8], corners: &[u8]) -> u32 {
+pub fn check(Survey { cells, corners, amendments }: Survey) -> u32 {
     // SAFETY: each pointer and length is of a slice lent for the call; the library is proved to read only inside.
-    unsafe { clearance_check(cells.as_ptr(), cells.len(), corners.as_ptr(), corners.len()) }
+    unsafe {
+        clearance_check(
+            cells.as_ptr(),
+            cells.len(),
+            corners.as_ptr(),
+            corners.len(),
+            amendments.as_ptr(),
+            amendments.len(),
+        )
+    }
 }
 
-pub fn enquire(
-    cells: &[u8],
-    corners: &[u8],
-    clearance: f32,
-    axis: u32,
-    [x, y, z]: [u32; 3],
-    length: u32,
-) -> Reply {
-    // SAFETY: each pointer and length is of a slice lent for the call; the library is proved to read only inside. The reply is plain numbers.
+pub fn enquire(Survey { cells, corners, amendments }: Survey, clearance: f32, edge: Edge) -> Reply {
+    // SAFETY: each pointer and length is of a slice lent for the call; the library is proved to read only inside. Edge and reply are plain numbers.
     unsafe {
         clearance_enquire(
             cells.as_ptr(),
             cells.len(),
             corners.as_ptr(),
             corners.len(),
+            amendments.as_ptr(),
+            amendments.len(),
             clearance,
-            axis,
-            x,
-            y,
-            z,
-            length,
+            edge,
         )
     }
 }
 
 pub fn draw(
-    cells: &[u8],
-    corners: &[u8],
+    Survey { cells, corners, amendments }: Survey,
     clearance: f32,
     points: &mut [f32],
     triangles: &mut [u32],
@@ -124,6 +145,8 @@ pub fn draw(
             cells.len(),
             corners.as_ptr(),
             corners.len(),
+            amendments.as_ptr(),
+            amendments.len(),
             clearance,
             points.as_mut_ptr(),
             points.len(),
@@ -134,24 +157,23 @@ pub fn draw(
 }
 
 pub fn volume(
-    cells: &[u8],
-    corners: &[u8],
+    Survey { cells, corners, amendments }: Survey,
     clearance: f32,
-    [x, y, z]: [u32; 3],
+    reference: Reference,
     points: &mut [f32],
     triangles: &mut [u32],
 ) -> Water {
-    // SAFETY: as for `draw`.
+    // SAFETY: as for `draw`. The reference is plain numbers.
     unsafe {
         clearance_volume(
             cells.as_ptr(),
             cells.len(),
             corners.as_ptr(),
             corners.len(),
+            amendments.as_ptr(),
+            amendments.len(),
             clearance,
-            x,
-            y,
-            z,
+            reference,
             points.as_mut_ptr(),
             points.len(),
             triangles.as_mut_ptr(),

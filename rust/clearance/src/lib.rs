@@ -1,60 +1,73 @@
 //! Clearance surfaces over a lock survey: the proved library as safe Rust.
 //!
-//! A survey is a cell table (an octree) and a corner table (a sounding at every corner of every cell), both as bytes. At a clearance the surface
-//! between wet and dry corners is drawn as points on the octree's edges and triangles between them. The calls are those of document 01, with what the
-//! requests of document 02 add and change; what they return, and what they write, is proved equal to the documents' rules for every input. What can't
-//! be drawn is refused by one of the thirteen [refusals](Refusal). What is drawn is closed: between any two points triangles run one way as often as
-//! the other. So the space inside is one number, wherever it is reckoned from.
+//! A [survey](Survey) is a cell table (an octree), a corner table (a sounding at every corner of every cell) and amendments to that, all as bytes. At a
+//! clearance the surface between wet and dry corners is drawn as points on the octree's edges and triangles between them. The calls are those of
+//! document 01, with what the requests of document 02 add and change; what they return, and what they write, is proved equal to the documents' rules
+//! for every input. What can't be drawn is refused by one of the fifteen [refusals](Refusal). What is drawn is closed: between any two points triangles
+//! run one way as often as the other. So the space inside is one number, wherever it is reckoned from.
 //!
-//! Nothing is kept between calls and nothing is allocated inside them, so any number of threads may call. A call needs less than 512 KiB of stack.
+//! Nothing is kept between calls and nothing is allocated inside them, so any number of threads may call. A call needs less than 512 KiB of stack, and
+//! with amendments less than 576 KiB.
 //!
 //! # The tables
 //!
-//! Both are little-endian records without a header, as document 01 has them:
+//! All are little-endian records without a header, as the documents have them:
 //!
 //! - a cell is 4 bytes: 0 for a leaf, else the record number of the first of its eight children in a row. Record 0 is the box, from 0 to 1,024 on
 //!   each axis; the child in place i is in the upper half of x, y and z by bits 0, 1 and 2 of i;
-//! - a corner is 10 bytes: x, y and z (16 bits each) and the sounding (binary32). Corners rise by z, then y, then x.
+//! - a corner is 12 bytes: x, y and z (16 bits each), the sounding (binary32) and the number of the day on which it was sounded (16 bits). Corners rise
+//!   by z, then y, then x;
+//! - an amendment is a corner record too: a corner that was sounded again. There may be up to 1,000, in any order, and several for one corner.
+//!
+//! For each corner the record of the highest day holds. Among equal days an amendment beats the corner table, and a later amendment an earlier one. All
+//! answers are those of the survey so amended.
 //!
 //! A corner is wet if its sounding is greater than the clearance, else dry: ground exactly at the clearance, just awash, is dry. The two zeros are
 //! equal.
 //!
 //! ```
-//! use clearance::{draw_to_vec, enquire, volume_to_vec, Edge, End, Refusal};
+//! use clearance::{draw_to_vec, enquire, volume_to_vec, Edge, End, Refusal, Survey};
+//!
+//! fn record(place: [u16; 3], sounding: f32, day: u16) -> Vec<u8> {
+//!     let place = place.iter().flat_map(|coordinate| coordinate.to_le_bytes());
+//!     place.chain(sounding.to_le_bytes()).chain(day.to_le_bytes()).collect()
+//! }
 //!
 //! // The box is split once: record 1 is the first of its eight children. Of the 27 corners only that in the middle is wet.
 //! let cells: Vec<u8> = [1u32, 0, 0, 0, 0, 0, 0, 0, 0].iter().flat_map(|entry| entry.to_le_bytes()).collect();
-//! let mut corners = Vec::new();
-//! for number in 0..27u16 {
-//!     for step in [1, 3, 9] {
-//!         corners.extend((512 * (number / step % 3)).to_le_bytes());
-//!     }
-//!     corners.extend(if number == 13 { 1f32 } else { -1.0 }.to_le_bytes());
-//! }
+//! let places = (0..27).map(|number: u16| [1, 3, 9].map(|step| 512 * (number / step % 3)));
+//! let sounding = |place| if place == [512; 3] { 1.0 } else { -1.0 };
+//! let corners: Vec<u8> = places.flat_map(|place| record(place, sounding(place), 100)).collect();
+//! let survey = Survey::new(&cells, &corners);
 //!
-//! let mesh = draw_to_vec(&cells, &corners, 0.0)?;
+//! let mesh = draw_to_vec(survey, 0.0)?;
 //! assert_eq!(mesh.points[..2], [[256.0, 512.0, 512.0], [768.0, 512.0, 512.0]]);
 //! assert_eq!(mesh.triangles, [[0, 4, 2], [1, 2, 4], [0, 3, 4], [1, 4, 3], [0, 2, 5], [1, 5, 2], [0, 5, 3], [1, 3, 5]]);
 //!
 //! // An octahedron with its corners 256 from the middle holds 4/3 · 256³. Six times this in cubic sixteenths is a whole number.
-//! let (_, water) = volume_to_vec(&cells, &corners, 0.0, [0, 0, 0])?;
+//! let (_, water) = volume_to_vec(survey, 0.0, [0, 0, 0])?;
 //! assert_eq!(water.sixfold, 8 * 256 * 256 * 256 * 4_096);
 //! assert_eq!(water.cubic_units(), 4.0 / 3.0 * 256.0 * 256.0 * 256.0);
 //!
-//! let along_y = enquire(&cells, &corners, 0.0, 1, [512, 512, 512], 512)?;
+//! let along_y = enquire(survey, 0.0, 1, [512, 512, 512], 512)?;
 //! assert_eq!(along_y, Edge::Crossing { number: 3, place: [512.0, 768.0, 512.0], wet_end: End::Lower });
 //!
 //! // At a clearance of 1 that corner is awash, and dry as all others are.
-//! assert_eq!(enquire(&cells, &corners, 1.0, 1, [512, 512, 512], 512)?, Edge::Even);
+//! assert_eq!(enquire(survey, 1.0, 1, [512, 512, 512], 512)?, Edge::Even);
+//!
+//! // It was dredged, and sounded again on day 131. What was sounded there on day 130 no longer holds, nor does the corner table.
+//! let amendments = [record([512; 3], 3.0, 131), record([512; 3], 2.0, 130)].concat();
+//! let along_y = enquire(survey.amended(&amendments), 0.0, 1, [512, 512, 512], 512)?;
+//! assert_eq!(along_y, Edge::Crossing { number: 3, place: [512.0, 896.0, 512.0], wet_end: End::Lower });
 //!
 //! // A pool that runs out of the box, here at its corner (0, 0, 0), is not drawn. Its edges may still be asked about.
-//! corners[6..10].copy_from_slice(&3f32.to_le_bytes());
-//! assert_eq!(draw_to_vec(&cells, &corners, 0.0), Err(Refusal::OpenAtBox));
-//! let along_x = enquire(&cells, &corners, 0.0, 0, [0, 0, 0], 512)?;
+//! let open = record([0; 3], 3.0, 100);
+//! assert_eq!(draw_to_vec(survey.amended(&open), 0.0), Err(Refusal::OpenAtBox));
+//! let along_x = enquire(survey.amended(&open), 0.0, 0, [0, 0, 0], 512)?;
 //! assert_eq!(along_x, Edge::Crossing { number: 0, place: [384.0, 0.0, 0.0], wet_end: End::Lower });
 //!
-//! corners.truncate(260);
-//! assert_eq!(draw_to_vec(&cells, &corners, 0.0), Err(Refusal::CornerSet));
+//! let a_corner_less = Survey::new(&cells, &corners[12..]);
+//! assert_eq!(draw_to_vec(a_corner_less, 0.0), Err(Refusal::CornerSet));
 //! # Ok::<(), Refusal>(())
 //! ```
 
@@ -64,54 +77,63 @@
 mod exported;
 mod outputs;
 mod refusal;
+mod survey;
 
 pub use outputs::{Counts, Edge, End, Mesh, Refused, Water};
 pub use refusal::Refusal;
+pub use survey::Survey;
 
 /// Checks a survey by itself. It may pass and yet not be drawn, since at some clearances a corner on an outer face is wet.
 ///
 /// ```
+/// use clearance::{check, Refusal, Survey};
+///
 /// let cells = std::fs::read("../../examples/twin/cells")?;
 /// let corners = std::fs::read("../../examples/twin/corners")?;
-/// clearance::check(&cells, &corners)?;
-/// assert_eq!(clearance::check(&cells[..64], &corners), Err(clearance::Refusal::CellEntry));
+/// check(Survey::new(&cells, &corners))?;
+/// assert_eq!(check(Survey::new(&cells[..64], &corners)), Err(Refusal::CellEntry));
+///
+/// // The first record as an amendment to itself, and a part of it.
+/// check(Survey::new(&cells, &corners).amended(&corners[..12]))?;
+/// assert_eq!(check(Survey::new(&cells, &corners).amended(&corners[..11])), Err(Refusal::AmendmentTable));
 /// # Ok::<(), Box<dyn std::error::Error>>(())
 /// ```
 ///
 /// # Errors
 ///
-/// The first refusal of 1 to 7 that applies.
-pub fn check(cells: &[u8], corners: &[u8]) -> Result<(), Refusal> {
-    passed(exported::check(cells, corners))
+/// The first refusal of 1 to 6, 14, 15 and 7, in this order, that applies.
+pub fn check(survey: Survey) -> Result<(), Refusal> {
+    passed(exported::check(survey))
 }
 
 /// Asks about the edge of some cell that runs along an axis (0 to 2 for x, y, z) from its lower end (x, y, z) over a length. A survey that is refused for
 /// drawing by [`Refusal::OpenAtBox`] is answered for too.
 ///
 /// ```
-/// use clearance::{enquire, Edge, End, Refusal};
+/// use clearance::{enquire, Edge, End, Refusal, Survey};
 ///
 /// let cells = std::fs::read("../../examples/twin/cells")?;
 /// let corners = std::fs::read("../../examples/twin/corners")?;
-/// let edge = enquire(&cells, &corners, 0.0, 0, [256, 512, 512], 256)?;
+/// let survey = Survey::new(&cells, &corners);
+/// let edge = enquire(survey, 0.0, 0, [256, 512, 512], 256)?;
 /// assert_eq!(edge, Edge::Crossing { number: 1, place: [384.0, 512.0, 512.0], wet_end: End::Lower });
-/// assert_eq!(enquire(&cells, &corners, 0.0, 0, [0, 512, 512], 512), Ok(Edge::Even));
-/// assert_eq!(enquire(&cells, &corners, 0.0, 3, [0, 0, 0], 512), Err(Refusal::NoEdge));
+/// assert_eq!(enquire(survey, 0.0, 0, [0, 512, 512], 512), Ok(Edge::Even));
+/// assert_eq!(enquire(survey, 0.0, 3, [0, 0, 0], 512), Err(Refusal::NoEdge));
 /// # Ok::<(), Box<dyn std::error::Error>>(())
 /// ```
 ///
 /// # Errors
 ///
-/// The first refusal of 1 to 8 that applies; else [`Refusal::NoEdge`] where no cell has this edge.
+/// The first refusal of [`check`], then 8, that applies; else [`Refusal::NoEdge`] where no cell has this edge.
 pub fn enquire(
-    cells: &[u8],
-    corners: &[u8],
+    survey: Survey,
     clearance: f32,
     axis: u32,
     lower_end: [u32; 3],
     length: u32,
 ) -> Result<Edge, Refusal> {
-    let reply = exported::enquire(cells, corners, clearance, axis, lower_end, length);
+    let [x, y, z] = lower_end;
+    let reply = exported::enquire(survey, clearance, exported::Edge { axis, x, y, z, length });
     passed(reply.number)?;
     Ok(match reply.crossing {
         0 => Edge::Even,
@@ -130,17 +152,18 @@ pub fn enquire(
 /// [`count`] tells beforehand how long the slices must be, [`draw_to_vec`] draws into vectors of its own.
 ///
 /// ```
-/// use clearance::{draw, Counts, Refusal};
+/// use clearance::{draw, Counts, Refusal, Survey};
 ///
 /// let cells = std::fs::read("../../examples/twin/cells")?;
 /// let corners = std::fs::read("../../examples/twin/corners")?;
+/// let survey = Survey::new(&cells, &corners);
 /// let (mut points, mut triangles) = ([0.0; 12], [0; 12]);
-/// let counts = draw(&cells, &corners, 0.0, &mut points, &mut triangles)?;
+/// let counts = draw(survey, 0.0, &mut points, &mut triangles)?;
 /// assert_eq!(counts, Counts { points: 4, triangles: 4 });
 /// assert_eq!(points[..3], [128.0, 512.0, 512.0]);
 /// assert_eq!(triangles, [0, 1, 3, 0, 2, 1, 0, 3, 2, 1, 2, 3]);
 ///
-/// let refused = draw(&cells, &corners, 0.0, &mut points, &mut triangles[..11]).unwrap_err();
+/// let refused = draw(survey, 0.0, &mut points, &mut triangles[..11]).unwrap_err();
 /// assert_eq!(refused.refusal, Refusal::TriangleSlice);
 /// assert_eq!(refused.counts, counts);
 /// # Ok::<(), Box<dyn std::error::Error>>(())
@@ -148,17 +171,15 @@ pub fn enquire(
 ///
 /// # Errors
 ///
-/// The first refusal of 1 to 8, 12, 9 and 10, in this order, that applies; then neither slice was touched. With [`Refusal::PointSlice`] and
+/// The first refusal of [`check`], then 8, 12, 9 and 10, that applies; then neither slice was touched. With [`Refusal::PointSlice`] and
 /// [`Refusal::TriangleSlice`] come the counts that the drawing needs.
 pub fn draw(
-    cells: &[u8],
-    corners: &[u8],
+    survey: Survey,
     clearance: f32,
     points: &mut [f32],
     triangles: &mut [u32],
 ) -> Result<Counts, Refused> {
-    let exported::Counts { number, points, triangles } =
-        exported::draw(cells, corners, clearance, points, triangles);
+    let exported::Counts { number, points, triangles } = exported::draw(survey, clearance, points, triangles);
     let counts = Counts { points, triangles };
     passed(number).map(|()| counts).map_err(|refusal| Refused { refusal, counts })
 }
@@ -168,7 +189,7 @@ pub fn draw(
 /// ```
 /// let cells = std::fs::read("../../examples/twin/cells")?;
 /// let corners = std::fs::read("../../examples/twin/corners")?;
-/// let counts = clearance::count(&cells, &corners, 0.0)?;
+/// let counts = clearance::count(clearance::Survey::new(&cells, &corners), 0.0)?;
 /// assert_eq!((counts.points, counts.triangles), (4, 4));
 /// assert_eq!((counts.point_elements(), counts.triangle_elements()), (12, 12));
 /// # Ok::<(), Box<dyn std::error::Error>>(())
@@ -176,9 +197,9 @@ pub fn draw(
 ///
 /// # Errors
 ///
-/// The first refusal of 1 to 8 that applies; else [`Refusal::OpenAtBox`] where a corner on an outer face is wet.
-pub fn count(cells: &[u8], corners: &[u8], clearance: f32) -> Result<Counts, Refusal> {
-    draw(cells, corners, clearance, &mut [], &mut []).or_else(Refused::needed)
+/// The first refusal of [`check`], then 8, that applies; else [`Refusal::OpenAtBox`] where a corner on an outer face is wet.
+pub fn count(survey: Survey, clearance: f32) -> Result<Counts, Refusal> {
+    draw(survey, clearance, &mut [], &mut []).or_else(Refused::needed)
 }
 
 /// Draws the surface of a survey at a clearance into vectors that are exactly long enough.
@@ -186,7 +207,7 @@ pub fn count(cells: &[u8], corners: &[u8], clearance: f32) -> Result<Counts, Ref
 /// ```
 /// let cells = std::fs::read("../../examples/twin/cells")?;
 /// let corners = std::fs::read("../../examples/twin/corners")?;
-/// let mesh = clearance::draw_to_vec(&cells, &corners, 0.0)?;
+/// let mesh = clearance::draw_to_vec(clearance::Survey::new(&cells, &corners), 0.0)?;
 /// assert_eq!(mesh.points[1], [384.0, 512.0, 512.0]);
 /// assert_eq!(mesh.triangles, [[0, 1, 3], [0, 2, 1], [0, 3, 2], [1, 2, 3]]);
 /// # Ok::<(), Box<dyn std::error::Error>>(())
@@ -194,9 +215,9 @@ pub fn count(cells: &[u8], corners: &[u8], clearance: f32) -> Result<Counts, Ref
 ///
 /// # Errors
 ///
-/// The first refusal of 1 to 8 that applies; else [`Refusal::OpenAtBox`] where a corner on an outer face is wet.
-pub fn draw_to_vec(cells: &[u8], corners: &[u8], clearance: f32) -> Result<Mesh, Refusal> {
-    into_vectors(|points, triangles| draw(cells, corners, clearance, points, triangles)).map(|(mesh, _)| mesh)
+/// The first refusal of [`check`], then 8, that applies; else [`Refusal::OpenAtBox`] where a corner on an outer face is wet.
+pub fn draw_to_vec(survey: Survey, clearance: f32) -> Result<Mesh, Refusal> {
+    into_vectors(|points, triangles| draw(survey, clearance, points, triangles)).map(|(mesh, _)| mesh)
 }
 
 /// Draws as [`draw`] does, with the same counts and the same elements in both slices, and reckons the space inside the surface.
@@ -208,36 +229,37 @@ pub fn draw_to_vec(cells: &[u8], corners: &[u8], clearance: f32) -> Result<Mesh,
 /// [`volume_to_vec`] draws into vectors of its own.
 ///
 /// ```
-/// use clearance::{volume, Refusal};
+/// use clearance::{volume, Refusal, Survey};
 ///
 /// let cells = std::fs::read("../../examples/twin/cells")?;
 /// let corners = std::fs::read("../../examples/twin/corners")?;
+/// let survey = Survey::new(&cells, &corners);
 /// let (mut points, mut triangles) = ([0.0; 12], [0; 12]);
-/// let water = volume(&cells, &corners, 0.0, [1_024, 0, 512], &mut points, &mut triangles)?;
+/// let water = volume(survey, 0.0, [1_024, 0, 512], &mut points, &mut triangles)?;
 /// // A tetrahedron with sides of 256, 128 and 128 units: a sixth of their product.
 /// assert_eq!(water.sixfold, 256 * 128 * 128 * 4_096);
-/// assert_eq!(water, volume(&cells, &corners, 0.0, [0, 0, 0], &mut points, &mut triangles)?);
+/// assert_eq!(water, volume(survey, 0.0, [0, 0, 0], &mut points, &mut triangles)?);
 /// assert_eq!(triangles, [0, 1, 3, 0, 2, 1, 0, 3, 2, 1, 2, 3]);
 ///
-/// let refused = volume(&cells, &corners, 0.0, [0, 1_025, 0], &mut points, &mut triangles).unwrap_err();
+/// let refused = volume(survey, 0.0, [0, 1_025, 0], &mut points, &mut triangles).unwrap_err();
 /// assert_eq!(refused.refusal, Refusal::Reference);
 /// # Ok::<(), Box<dyn std::error::Error>>(())
 /// ```
 ///
 /// # Errors
 ///
-/// The first refusal of 1 to 8, 12, 13, 9 and 10, in this order, that applies; then neither slice was touched. With [`Refusal::PointSlice`] and
+/// The first refusal of [`check`], then 8, 12, 13, 9 and 10, that applies; then neither slice was touched. With [`Refusal::PointSlice`] and
 /// [`Refusal::TriangleSlice`] come the counts that the drawing needs.
 pub fn volume(
-    cells: &[u8],
-    corners: &[u8],
+    survey: Survey,
     clearance: f32,
     reference: [u32; 3],
     points: &mut [f32],
     triangles: &mut [u32],
 ) -> Result<Water, Refused> {
+    let [x, y, z] = reference;
     let exported::Water { number, points, triangles, sixfold } =
-        exported::volume(cells, corners, clearance, reference, points, triangles);
+        exported::volume(survey, clearance, exported::Reference { x, y, z }, points, triangles);
     assert!(number == 0 || sixfold == 0, "refusal {number} with a sum of {sixfold}");
     let counts = Counts { points, triangles };
     passed(number).map(|()| Water { counts, sixfold }).map_err(|refusal| Refused { refusal, counts })
@@ -246,24 +268,22 @@ pub fn volume(
 /// Draws the surface into vectors that are exactly long enough, and reckons the space inside, as [`volume`] does.
 ///
 /// ```
+/// use clearance::{draw_to_vec, volume_to_vec, Survey};
+///
 /// let cells = std::fs::read("../../examples/twin/cells")?;
 /// let corners = std::fs::read("../../examples/twin/corners")?;
-/// let (mesh, water) = clearance::volume_to_vec(&cells, &corners, 0.0, [0, 0, 0])?;
-/// assert_eq!(mesh, clearance::draw_to_vec(&cells, &corners, 0.0)?);
+/// let survey = Survey::new(&cells, &corners);
+/// let (mesh, water) = volume_to_vec(survey, 0.0, [0, 0, 0])?;
+/// assert_eq!(mesh, draw_to_vec(survey, 0.0)?);
 /// assert_eq!(water.cubic_units(), 256.0 * 128.0 * 128.0 / 6.0);
 /// # Ok::<(), Box<dyn std::error::Error>>(())
 /// ```
 ///
 /// # Errors
 ///
-/// The first refusal of 1 to 8, 12 and 13, in this order, that applies.
-pub fn volume_to_vec(
-    cells: &[u8],
-    corners: &[u8],
-    clearance: f32,
-    reference: [u32; 3],
-) -> Result<(Mesh, Water), Refusal> {
-    into_vectors(|points, triangles| volume(cells, corners, clearance, reference, points, triangles))
+/// The first refusal of [`check`], then 8, 12 and 13, that applies.
+pub fn volume_to_vec(survey: Survey, clearance: f32, reference: [u32; 3]) -> Result<(Mesh, Water), Refusal> {
+    into_vectors(|points, triangles| volume(survey, clearance, reference, points, triangles))
 }
 
 /// Makes a call that draws with empty slices for its counts, then with vectors that are exactly long enough. An empty drawing is done after the first.

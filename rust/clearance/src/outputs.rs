@@ -93,7 +93,8 @@ impl Water {
 /// ```
 /// let cells = std::fs::read("../../examples/twin/cells")?;
 /// let corners = std::fs::read("../../examples/twin/corners")?;
-/// let refused = clearance::draw(&cells, &corners, 0.0, &mut [], &mut []).unwrap_err();
+/// let survey = clearance::Survey::new(&cells, &corners);
+/// let refused = clearance::draw(survey, 0.0, &mut [], &mut []).unwrap_err();
 /// assert_eq!(refused.to_string(), "the point slice is too short: the drawing has 4 points and 4 triangles");
 /// # Ok::<(), std::io::Error>(())
 /// ```

@@ -3,16 +3,15 @@
 use std::fmt;
 
 /// Why a survey, a clearance, a lent slice, an edge or a reference point is refused. Checks run in rising number, but for 12 and 13, which stand between
-/// 8 and 9; the first that applies is given.
+/// 8 and 9, and 14 and 15, which stand between 6 and 7; the first that applies is given.
 ///
 /// So refusals compare by number and not by the order of checks: only [`PointSlice`](Refusal::PointSlice) and
-/// [`TriangleSlice`](Refusal::TriangleSlice) say that there is a drawing, and [`OpenAtBox`](Refusal::OpenAtBox) and [`Reference`](Refusal::Reference) are
-/// above both.
+/// [`TriangleSlice`](Refusal::TriangleSlice) say that there is a drawing, and four others are above both.
 ///
 /// ```
-/// use clearance::Refusal;
+/// use clearance::{Refusal, Survey};
 ///
-/// let refusal = clearance::check(&[], &[]).unwrap_err();
+/// let refusal = clearance::check(Survey::new(&[], &[])).unwrap_err();
 /// assert_eq!(refusal, Refusal::CellTable);
 /// assert_eq!(refusal.number(), 1);
 /// assert_eq!(refusal.to_string(), "the cell table is empty, not whole records, or over 8,196 bytes");
@@ -22,7 +21,7 @@ use std::fmt;
 pub enum Refusal {
     /// The cell table is empty, not whole records (4 bytes each), or over 8,196 bytes.
     CellTable = 1,
-    /// The corner table is empty, not whole records (10 bytes each), or over 48,720 bytes.
+    /// The corner table is empty, not whole records (12 bytes each), or over 58,464 bytes.
     CornerTable = 2,
     /// A cell entry or the record count breaks the rule of the cell table.
     CellEntry = 3,
@@ -32,7 +31,7 @@ pub enum Refusal {
     CornerOrder = 5,
     /// A cell's corner is missing, or a record is no cell's corner.
     CornerSet = 6,
-    /// A sounding is not finite or beyond ±1,048,576.
+    /// A sounding in force is not finite or beyond ±1,048,576. One that is overruled may hold anything.
     Sounding = 7,
     /// The clearance is not finite or beyond ±1,048,576.
     Clearance = 8,
@@ -47,11 +46,15 @@ pub enum Refusal {
     OpenAtBox = 12,
     /// A coordinate of the volume's reference point is above 1,024.
     Reference = 13,
+    /// The amendment table is not whole records (12 bytes each) or over 12,000 bytes. An empty one is lawful.
+    AmendmentTable = 14,
+    /// An amendment is at no cell's corner, whether its day is high enough to hold or not.
+    AmendmentPlace = 15,
 }
 
 impl Refusal {
     /// All refusals, by rising number.
-    pub const ALL: [Refusal; 13] = [
+    pub const ALL: [Refusal; 15] = [
         Refusal::CellTable,
         Refusal::CornerTable,
         Refusal::CellEntry,
@@ -65,9 +68,11 @@ impl Refusal {
         Refusal::NoEdge,
         Refusal::OpenAtBox,
         Refusal::Reference,
+        Refusal::AmendmentTable,
+        Refusal::AmendmentPlace,
     ];
 
-    /// The refusal's number in the documents: 1 to 13.
+    /// The refusal's number in the documents: 1 to 15.
     pub const fn number(self) -> u32 {
         self as u32
     }
@@ -89,18 +94,20 @@ impl fmt::Display for Refusal {
     fn fmt(&self, text: &mut fmt::Formatter<'_>) -> fmt::Result {
         text.write_str(match self {
             Refusal::CellTable => "the cell table is empty, not whole records, or over 8,196 bytes",
-            Refusal::CornerTable => "the corner table is empty, not whole records, or over 48,720 bytes",
+            Refusal::CornerTable => "the corner table is empty, not whole records, or over 58,464 bytes",
             Refusal::CellEntry => "a cell entry or the record count breaks the rule of the cell table",
             Refusal::TooDeep => "a cell of depth 10 is split",
             Refusal::CornerOrder => "corner records don't rise strictly",
             Refusal::CornerSet => "a cell's corner is missing, or a record is no cell's corner",
-            Refusal::Sounding => "a sounding is not finite or beyond ±1,048,576",
+            Refusal::Sounding => "a sounding in force is not finite or beyond ±1,048,576",
             Refusal::Clearance => "the clearance is not finite or beyond ±1,048,576",
             Refusal::PointSlice => "the point slice is too short",
             Refusal::TriangleSlice => "the triangle slice is too short",
             Refusal::NoEdge => "no cell has this edge",
             Refusal::OpenAtBox => "the pool runs out of the surveyed box (a corner on an outer face is wet)",
             Refusal::Reference => "a coordinate of the reference point is above 1,024",
+            Refusal::AmendmentTable => "the amendment table is not whole records or over 12,000 bytes",
+            Refusal::AmendmentPlace => "an amendment is at no cell's corner",
         })
     }
 }

@@ -1,21 +1,23 @@
 //! The compiled check against the independent Rust drawing's, on lawful and damaged tables. Each failure names the seed that makes the survey again.
 
 mod number;
+mod tables;
 
 use number::number;
-use surveys::{damage, document, generate, Survey};
+use surveys::{damage, document, generate, refusals, Survey};
+use tables::{independent, proved};
 
 fn assert_same(survey: &Survey, what: &str) -> u32 {
-    let Survey { cells, corners, .. } = survey;
-    let number = number(clearance::check(cells, corners));
-    assert_eq!(number, drawing::check(cells, corners), "{what}");
+    let number = number(clearance::check(proved(survey)));
+    assert_eq!(number, drawing::check(independent(survey)), "{what}");
     number
 }
 
 #[test]
 fn the_surveys_of_the_document() {
     for example in document::checked() {
-        assert_same(&example.survey, &example.name);
+        let number = assert_same(&example.survey, &example.name);
+        assert_eq!(number, example.by_itself(), "{}", example.name);
     }
 }
 
@@ -30,7 +32,8 @@ fn lawful_surveys_pass() {
 
 #[test]
 fn damaged_tables_are_refused_alike() {
-    for refusal in 1..=7 {
+    let by_itself = refusals::ORDER.into_iter().filter(|&refusal| refusals::by_itself(refusal) != 0);
+    for refusal in by_itself {
         for seed in 0..1_500 {
             let survey = damage::damaged_for(refusal, seed).survey;
             let what = format!("damaged for {refusal}, seed {seed}");

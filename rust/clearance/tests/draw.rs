@@ -6,6 +6,7 @@
 
 mod comparing;
 mod number;
+mod tables;
 
 use clearance::Refusal;
 use comparing::{drawn, large, refused, small};
@@ -16,17 +17,17 @@ use surveys::plain::Plain;
 use surveys::refusals::{self, OPEN_AT_BOX};
 use surveys::tally::Tally;
 use surveys::{closing, damage, document, generate, Survey};
+use tables::{independent, proved};
 
 /// Draws with both drawings into slices of these lengths; result and slices must be the same bits, and no coordinate −0.
 fn assert_same(survey: &Survey, points: usize, triangles: usize, what: &str) -> Slices<Drawn> {
-    let Survey { cells, corners, clearance } = survey;
     let (result, floats, numbers) = lend(points, triangles, what, |floats, numbers| {
-        let result = clearance::draw(cells, corners, *clearance, floats, numbers);
+        let result = clearance::draw(proved(survey), survey.clearance, floats, numbers);
         let result = result.map_or_else(refused, |counts| drawn(0, counts));
         (result, result.written())
     });
     let (expected, expected_floats, expected_numbers) = lend(points, triangles, what, |floats, numbers| {
-        let expected = drawing::draw(cells, corners, *clearance, floats, numbers);
+        let expected = drawing::draw(independent(survey), survey.clearance, floats, numbers);
         (expected, expected.written())
     });
     assert_eq!(result, expected, "{what}: result");
@@ -50,7 +51,7 @@ impl Seen {
         match refusals::of_drawing(survey) {
             0 => {
                 let (points, awash) = assert_drawn(survey, what);
-                self.tally.add_drawn(points);
+                self.tally.add_drawn(survey, points);
                 self.awash += awash;
             }
             OPEN_AT_BOX => {
@@ -78,12 +79,12 @@ fn assert_open(survey: &Survey, what: &str) {
         let (refused, ..) = assert_same(survey, points, triangles, what);
         assert_eq!(refused, Drawn { number: OPEN_AT_BOX, points: 0, triangles: 0 }, "{what}");
     }
-    let Survey { cells, corners, clearance } = survey;
-    assert_eq!(clearance::count(cells, corners, *clearance), Err(Refusal::OpenAtBox), "{what}: counted");
-    let in_vectors = clearance::draw_to_vec(cells, corners, *clearance);
+    let counted = clearance::count(proved(survey), survey.clearance);
+    assert_eq!(counted, Err(Refusal::OpenAtBox), "{what}: counted");
+    let in_vectors = clearance::draw_to_vec(proved(survey), survey.clearance);
     assert_eq!(in_vectors, Err(Refusal::OpenAtBox), "{what}: in vectors");
-    assert_eq!(clearance::check(cells, corners), Ok(()), "{what}: by itself");
-    assert_eq!(drawing::check(cells, corners), 0, "{what}: by itself");
+    assert_eq!(clearance::check(proved(survey)), Ok(()), "{what}: by itself");
+    assert_eq!(drawing::check(independent(survey)), 0, "{what}: by itself");
 }
 
 /// Draws into slices that are exactly long enough, one element too short, empty, and longer than needed. Gives back how many points there are, and
@@ -119,11 +120,10 @@ fn assert_awash(survey: &Survey, floats: &[f32], what: &str) -> usize {
 
 /// Counting, and drawing into vectors, give what was drawn into slices.
 fn assert_vectors(survey: &Survey, floats: &[f32], numbers: &[u32], what: &str) {
-    let Survey { cells, corners, clearance } = survey;
-    let counts = clearance::count(cells, corners, *clearance).expect(what);
+    let counts = clearance::count(proved(survey), survey.clearance).expect(what);
     assert_eq!(counts.point_elements(), floats.len(), "{what}");
     assert_eq!(counts.triangle_elements(), numbers.len(), "{what}");
-    let mesh = clearance::draw_to_vec(cells, corners, *clearance).expect(what);
+    let mesh = clearance::draw_to_vec(proved(survey), survey.clearance).expect(what);
     assert!(bits(mesh.points.as_flattened()) == bits(floats), "{what}: points in a vector");
     assert_eq!(mesh.triangles.concat(), numbers, "{what}: triangles in a vector");
 }
@@ -181,8 +181,7 @@ fn the_wet_space_counts_as_positive() {
     for seed in large()..2 * large() {
         let survey = generate::interior(seed);
         assert_drawn(&survey, &format!("interior, seed {seed}"));
-        let Survey { cells, corners, clearance } = &survey;
-        let (_, water) = clearance::volume_to_vec(cells, corners, *clearance, [0; 3]).expect("drawn");
+        let (_, water) = clearance::volume_to_vec(proved(&survey), survey.clearance, [0; 3]).expect("drawn");
         assert!(water.sixfold >= 0, "interior, seed {seed}: {}", water.sixfold);
         spaces += u64::from(water.sixfold > 0);
     }
@@ -212,8 +211,7 @@ fn damaged_surveys_touch_nothing() {
         let damage::Damaged { survey, refusal } = damage::damaged(seed);
         let (refused, ..) = assert_same(&survey, 40, 40, &format!("damaged, seed {seed}"));
         assert_eq!(refused.number, refusal, "damaged, seed {seed}");
-        let Survey { cells, corners, clearance } = &survey;
-        let in_vectors = number(clearance::draw_to_vec(cells, corners, *clearance));
+        let in_vectors = number(clearance::draw_to_vec(proved(&survey), survey.clearance));
         assert_eq!(in_vectors, refusal, "damaged, seed {seed}: in vectors");
     }
 }

@@ -2,13 +2,16 @@
 //! soundings. Each failure names the seed that makes the survey again.
 
 mod number;
+mod tables;
 
 use clearance::{Edge, End, Refusal};
 use number::number;
+use surveys::amendments::some_hold;
 use surveys::plain::{self, Plain};
 use surveys::refusals::{self, OPEN_AT_BOX};
 use surveys::survey::on_outer_face;
 use surveys::{damage, document, generate, Survey};
+use tables::{independent, proved};
 
 /// The answer as numbers, floats by their bits: the number returned, and for a crossing 1 + the point's number, its place and the wet end (1 lower, 2 upper).
 type Numbers = [u32; 6];
@@ -42,10 +45,10 @@ fn crossing(number: u32, [x, y, z]: [f32; 3], upper_wet: bool) -> Numbers {
 
 /// Asks both; the answers must be the same bits, and no coordinate −0.
 fn assert_same(survey: &Survey, axis: u32, lower_end: [u32; 3], length: u32, what: &str) -> Numbers {
-    let Survey { cells, corners, clearance } = survey;
-    let [x, y, z] = lower_end;
-    let answer = numbers(clearance::enquire(cells, corners, *clearance, axis, lower_end, length));
-    let expected = expected_numbers(drawing::enquire(cells, corners, *clearance, axis, x, y, z, length));
+    let clearance = survey.clearance;
+    let answer = numbers(clearance::enquire(proved(survey), clearance, axis, lower_end, length));
+    let expected = drawing::enquire(independent(survey), clearance, axis, lower_end, length);
+    let expected = expected_numbers(expected);
     assert_eq!(answer, expected, "{what}: axis {axis}, lower end {lower_end:?}, length {length}");
     assert!(!answer[2..5].contains(&(-0f32).to_bits()), "{what}: axis {axis}, lower end {lower_end:?}: -0");
     answer
@@ -53,7 +56,7 @@ fn assert_same(survey: &Survey, axis: u32, lower_end: [u32; 3], length: u32, wha
 
 /// The places of the corner records.
 fn places(survey: &Survey) -> impl Iterator<Item = [u32; 3]> + '_ {
-    plain::corners(&survey.corners).map(|(place, _)| place.map(u32::from))
+    plain::records(&survey.corners).map(|record| record.place.map(u32::from))
 }
 
 #[test]
@@ -69,17 +72,20 @@ fn the_quarter_place() {
 }
 
 /// Both drawings refuse a survey with a wet corner on an outer face.
-fn assert_not_drawn(Survey { cells, corners, clearance }: &Survey, what: &str) {
-    assert_eq!(number(clearance::draw_to_vec(cells, corners, *clearance)), OPEN_AT_BOX, "{what}");
-    assert_eq!(drawing::draw_to_vec(cells, corners, *clearance), Err(OPEN_AT_BOX), "{what}");
+fn assert_not_drawn(survey: &Survey, what: &str) {
+    let drawn = clearance::draw_to_vec(proved(survey), survey.clearance);
+    assert_eq!(number(drawn), OPEN_AT_BOX, "{what}");
+    let drawn = drawing::draw_to_vec(independent(survey), survey.clearance);
+    assert_eq!(drawn, Err(OPEN_AT_BOX), "{what}");
 }
 
 /// A survey that is not drawn for its one wet corner on an outer face serves the enquiry as any other: the edges at that corner, and many more.
 #[test]
 fn surveys_that_are_open_at_the_box() {
-    let mut crossings = 0;
+    let [mut crossings, mut amended] = [0; 2];
     for seed in 0..200 {
         let survey = generate::one_wet_outside(seed);
+        amended += usize::from(some_hold(&survey));
         let what = format!("one wet outside, seed {seed}");
         assert_not_drawn(&survey, &what);
         let plain = Plain::read(&survey);
@@ -93,7 +99,7 @@ fn surveys_that_are_open_at_the_box() {
             crossings += usize::from(is_crossing != 0);
         }
     }
-    assert!(crossings > 1_000, "{crossings} crossing edges");
+    assert!(crossings > 1_000 && amended > 60, "{crossings} crossing edges, {amended} surveys amended");
 }
 
 #[test]
@@ -116,13 +122,14 @@ fn ground_awash_is_dry() {
 fn every_edge_and_many_that_no_cell_has() {
     let mut met = [0usize; 4];
     let mut divided = [0usize; 2];
-    let mut open = 0;
+    let [mut open, mut amended] = [0; 2];
     let any_outside = generate::named("small survey", 0..25, |seed| generate::small_survey(seed, 6));
     let dry_outside = generate::named("small interior", 0..10, |seed| generate::small_interior(seed, 6));
     for (what, survey) in any_outside.chain(dry_outside) {
         open += usize::from(refusals::of_drawing(&survey) == OPEN_AT_BOX);
+        amended += usize::from(some_hold(&survey));
         let plain = Plain::read(&survey);
-        for (place, _) in plain::corners(&survey.corners) {
+        for place in plain::records(&survey.corners).map(|record| record.place) {
             for (axis, level) in (0..3).flat_map(|axis| (0..=10).map(move |level| (axis, level))) {
                 match assert_same(&survey, axis, place.map(u32::from), 1 << level, &what) {
                     [11, ..] => met[0] += 1,
@@ -138,6 +145,7 @@ fn every_edge_and_many_that_no_cell_has() {
     }
     assert!(met.iter().all(|&count| count > 300), "no edge, even, crossing with either wet end: {met:?}");
     assert!((20..=25).contains(&open), "{open} of 35 surveys are refused for drawing");
+    assert!(amended > 10, "{amended} of 35 surveys are amended");
     assert!(
         divided.iter().all(|&count| count > 30),
         "divided and crossing, with either wet end: {divided:?}"

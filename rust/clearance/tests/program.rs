@@ -1,9 +1,13 @@
 //! The drawing program, as the proved crate `draw` builds it: what it prints in a directory, against the independent Rust drawing.
 
+mod tables;
+
 use std::path::{Path, PathBuf};
 use std::process::Command;
 
-use surveys::{damage, document, generate, Survey};
+use surveys::amendments::some_hold;
+use surveys::{damage, document, generate, resounded, Survey};
+use tables::independent;
 
 /// What the program lends: 2,048 points and 4,096 triangles.
 const POINTS: usize = 3 * 2_048;
@@ -31,8 +35,11 @@ fn printed_in(program: &Path, directory: &Path) -> String {
     String::from_utf8(output.stdout).expect("text")
 }
 
-/// What the program prints where these files stand; a missing file is `None`.
-fn printed(program: &Path, files: [(&str, Option<&[u8]>); 3]) -> String {
+/// The program's files, by name; a missing one is `None`.
+type Files<'a> = [(&'static str, Option<&'a [u8]>); 4];
+
+/// What the program prints where these files stand.
+fn printed(program: &Path, files: Files) -> String {
     let directory = std::env::temp_dir().join(format!("clearance-{}", std::process::id()));
     std::fs::create_dir_all(&directory).expect("a directory");
     for (name, bytes) in files {
@@ -47,10 +54,26 @@ fn printed(program: &Path, files: [(&str, Option<&[u8]>); 3]) -> String {
     text
 }
 
+/// The files of a survey, with this clearance.
+fn files<'a>(survey: &'a Survey, clearance: Option<&'a [u8]>) -> Files<'a> {
+    [
+        ("cells", Some(&survey.cells)),
+        ("corners", Some(&survey.corners)),
+        ("amendments", Some(&survey.amendments)),
+        ("clearance", clearance),
+    ]
+}
+
+/// The same files without this one.
+fn without<'a>(mut files: Files<'a>, missing: &str) -> Files<'a> {
+    files.iter_mut().filter(|(name, _)| *name == missing).for_each(|(_, bytes)| *bytes = None);
+    files
+}
+
 /// The listing by the independent drawing.
-fn listing(cells: &[u8], corners: &[u8], clearance: f32) -> String {
+fn listing(survey: &Survey) -> String {
     let (mut points, mut triangles) = (vec![0.0; POINTS], vec![0; TRIANGLES]);
-    let drawn = drawing::draw(cells, corners, clearance, &mut points, &mut triangles);
+    let drawn = drawing::draw(independent(survey), survey.clearance, &mut points, &mut triangles);
     if drawn.number != 0 {
         return format!("refused {}\n", drawn.number);
     }
@@ -65,13 +88,33 @@ fn listing(cells: &[u8], corners: &[u8], clearance: f32) -> String {
 }
 
 fn assert_printed(program: &Path, survey: &Survey, what: &str) -> String {
-    let Survey { cells, corners, clearance } = survey;
-    let text = printed(
-        program,
-        [("cells", Some(cells)), ("corners", Some(corners)), ("clearance", Some(&clearance.to_le_bytes()))],
-    );
-    assert_eq!(text, listing(cells, corners, *clearance), "{what}");
+    let text = printed(program, files(survey, Some(&survey.clearance.to_le_bytes())));
+    assert_eq!(text, listing(survey), "{what}");
     text
+}
+
+/// Files that are missing or of another length.
+fn assert_files_judged(program: &Path, twin: &Survey) {
+    let zero = 0f32.to_le_bytes();
+    let whole = files(twin, Some(&zero));
+    let missing = |name| printed(program, without(whole, name));
+    assert_eq!(missing("cells"), "refused 1\n");
+    assert_eq!(missing("corners"), "refused 2\n");
+    assert_eq!(missing("clearance"), "refused 8\n");
+    assert_eq!(missing("amendments"), printed(program, whole));
+    assert_eq!(printed(program, whole.map(|(name, _)| (name, None))), "refused 1\n");
+    assert_eq!(printed(program, files(twin, Some(&zero[..3]))), "refused 8\n");
+    let too_many_cells = Survey { cells: vec![0; 8_200], ..twin.clone() };
+    assert_eq!(printed(program, without(files(&too_many_cells, None), "amendments")), "refused 1\n");
+    // All are for the corner (0, 0, 0), which stays dry.
+    let amended = |bytes| {
+        let survey = Survey { amendments: vec![0; bytes], ..twin.clone() };
+        assert_printed(program, &survey, &format!("{bytes} bytes of amendments"))
+    };
+    assert_eq!(amended(12_000), printed(program, whole));
+    for bytes in [1, 12_001, 12_012, 20_000] {
+        assert_eq!(amended(bytes), "refused 14\n", "{bytes} bytes of amendments");
+    }
 }
 
 #[test]
@@ -81,33 +124,31 @@ fn listings_and_refusals() {
     let whole = std::fs::read_to_string(root().join("crates/draw/stdout")).expect("document 01's listing");
     assert_eq!(assert_printed(&program, &twin, "the twin survey"), whole);
     assert_eq!(printed_in(&program, &root().join("examples/twin")), whole);
-    assert_eq!(printed(&program, [("cells", None), ("corners", None), ("clearance", None)]), "refused 1\n");
-    let short: &[u8] = &[0, 0, 0];
-    let files = |clearance| {
-        [("cells", Some(&twin.cells[..])), ("corners", Some(&twin.corners[..])), ("clearance", clearance)]
-    };
-    assert_eq!(printed(&program, files(Some(short))), "refused 8\n");
-    assert_eq!(printed(&program, files(None)), "refused 8\n");
-    assert_eq!(
-        printed(
-            &program,
-            [("cells", Some(&[0; 8_200])), ("corners", Some(&twin.corners)), ("clearance", None)]
-        ),
-        "refused 1\n"
-    );
-    let [mut drawn, mut open] = [0; 2];
+    let deepened = assert_printed(&program, &resounded::deepened_twin(), "the twin survey deepened");
+    assert_eq!(printed_in(&program, &root().join("examples/resounded")), deepened);
+    assert_files_judged(&program, &twin);
+    let [mut drawn, mut amended, mut open] = [0; 3];
     for seed in 0..60 {
-        match assert_printed(&program, &generate::mixed(seed), &format!("mixed, seed {seed}")).as_str() {
+        let survey = generate::mixed(seed);
+        match assert_printed(&program, &survey, &format!("mixed, seed {seed}")).as_str() {
             "refused 12\n" => open += 1,
-            text => drawn += usize::from(!text.starts_with("refused")),
+            text if text.starts_with("refused") => {}
+            _ => {
+                drawn += 1;
+                amended += usize::from(some_hold(&survey));
+            }
         }
         assert_printed(&program, &damage::damaged(seed).survey, &format!("damaged, seed {seed}"));
     }
-    println!("the program: {drawn} of 60 drawn, {open} refused by 12");
-    assert!(drawn > 45 && open > 4, "{drawn} drawn, {open} refused by 12");
-    let examples = document::checked().into_iter().filter(|example| example.refusal == 12);
-    for example in examples {
-        assert_eq!(assert_printed(&program, &example.survey, &example.name), "refused 12\n");
+    let seen = format!("{drawn} of 60 drawn, {amended} of these amended, {open} refused by 12");
+    println!("the program: {seen}");
+    assert!(drawn > 45 && amended > 15 && open > 4, "{seen}");
+    for example in document::checked() {
+        let text = assert_printed(&program, &example.survey, &example.name);
+        match example.refusal {
+            0 => assert!(!text.starts_with("refused"), "{}", example.name),
+            refusal => assert_eq!(text, format!("refused {refusal}\n"), "{}", example.name),
+        }
     }
     for seed in 0..3 {
         assert_printed(&program, &generate::long_loop(seed), &format!("long loop, seed {seed}"));

@@ -5,6 +5,7 @@
 
 mod comparing;
 mod number;
+mod tables;
 
 use clearance::{Counts, Mesh};
 use comparing::{drawn, large, refused, small};
@@ -14,23 +15,25 @@ use surveys::lent::{bits, lend, Slices};
 use surveys::plain::Plain;
 use surveys::refusals::{self, OPEN_AT_BOX, REFERENCE};
 use surveys::sized::{self, Kind};
+use surveys::survey::Record;
 use surveys::tally::Tally;
 use surveys::{damage, document, generate, references, volumes, water, Survey};
+use tables::{independent, proved};
 
 /// Lengths of lent slices in which a small drawing has room, or lacks it for points, for triangles, for both.
 const ROOMS: [[usize; 2]; 4] = [[64, 64], [0, 64], [64, 0], [0, 0]];
 
 /// Reckons with both into slices of these lengths; result and slices must be the same bits.
 fn assert_same(survey: &Survey, reference: [u32; 3], room: [usize; 2], what: &str) -> Slices<Water> {
-    let Survey { cells, corners, clearance } = survey;
+    let clearance = survey.clearance;
     let what = &format!("{what}, from {reference:?}");
     let (result, floats, numbers) = lend(room[0], room[1], what, |floats, numbers| {
-        let result = clearance::volume(cells, corners, *clearance, reference, floats, numbers);
+        let result = clearance::volume(proved(survey), clearance, reference, floats, numbers);
         let result = result.map_or_else(without_volume, with_volume);
         (result, result.drawn.written())
     });
     let (expected, expected_floats, expected_numbers) = lend(room[0], room[1], what, |floats, numbers| {
-        let expected = drawing::volume(cells, corners, *clearance, reference, floats, numbers);
+        let expected = drawing::volume(independent(survey), clearance, reference, floats, numbers);
         (expected, expected.drawn.written())
     });
     assert_eq!(result, expected, "{what}: result");
@@ -49,15 +52,14 @@ fn without_volume(refusal: clearance::Refused) -> Water {
     Water { drawn: refused(refusal), sixfold: 0 }
 }
 
-/// A survey that a check of 1 to 8 or 12 refuses: without counts, ahead of any reference and any slice, also into vectors.
+/// A survey that a check before 13 refuses: without counts, ahead of any reference and any slice, also into vectors.
 fn assert_not_drawn(survey: &Survey, refusal: u32, what: &str) {
-    let Survey { cells, corners, clearance } = survey;
     for reference in [[1_024, 0, 1_024], [0, 0, 1_025]] {
         for room in ROOMS {
             let (result, ..) = assert_same(survey, reference, room, what);
             assert_eq!(result.drawn, drawn(refusal, Counts::default()), "{what}, from {reference:?}");
         }
-        let in_vectors = clearance::volume_to_vec(cells, corners, *clearance, reference);
+        let in_vectors = clearance::volume_to_vec(proved(survey), survey.clearance, reference);
         assert_eq!(number(in_vectors), refusal, "{what}, from {reference:?}: in vectors");
     }
 }
@@ -65,8 +67,7 @@ fn assert_not_drawn(survey: &Survey, refusal: u32, what: &str) {
 /// A survey that is drawn: from every reference the same sum, that of the prisms under its drawing, and the slices of its drawing; into slices that are
 /// longer than needed or too short; and from references beyond the box. Gives back the counts and the sum.
 fn assert_reckoned(survey: &Survey, seed: u64, what: &str) -> Water {
-    let Survey { cells, corners, clearance } = survey;
-    let mesh = clearance::draw_to_vec(cells, corners, *clearance).expect(what);
+    let mesh = clearance::draw_to_vec(proved(survey), survey.clearance).expect(what);
     let expected = water_of(&mesh);
     let needed = expected.drawn.written();
     let references = references::of_box(seed);
@@ -77,7 +78,7 @@ fn assert_reckoned(survey: &Survey, seed: u64, what: &str) -> Water {
         assert_eq!(numbers, mesh.triangles.as_flattened(), "{what}: triangles of the drawing");
     }
     let reference = references[seed as usize % references.len()];
-    let in_vectors = clearance::volume_to_vec(cells, corners, *clearance, reference).expect(what);
+    let in_vectors = clearance::volume_to_vec(proved(survey), survey.clearance, reference).expect(what);
     assert_eq!((in_vectors.0, with_volume(in_vectors.1)), (mesh, expected), "{what}: in vectors");
     let longer = [needed[0] + 4, needed[1] + 7];
     assert_eq!(assert_same(survey, reference, longer, what).0, expected, "{what}: longer slices");
@@ -133,7 +134,7 @@ impl Seen {
                 let Water { drawn, sixfold } = assert_reckoned(survey, seed, what);
                 // Not proved: seen of all surveys tried.
                 assert!(sixfold >= 0, "{what}: {sixfold}");
-                self.tally.add_drawn(drawn.points as usize);
+                self.tally.add_drawn(survey, drawn.points as usize);
                 self.spaces += u64::from(sixfold > 0);
             }
             OPEN_AT_BOX => {
@@ -226,21 +227,24 @@ fn references_beyond_the_box_are_refused() {
                 let (result, ..) = assert_same(&survey, reference, room, name);
                 assert_eq!(result.drawn, drawn(REFERENCE, Counts::default()), "{name}, from {reference:?}");
             }
-            let Survey { cells, corners, clearance } = &survey;
-            let in_vectors = clearance::volume_to_vec(cells, corners, *clearance, reference);
+            let in_vectors = clearance::volume_to_vec(proved(&survey), survey.clearance, reference);
             assert_eq!(number(in_vectors), REFERENCE, "{name}, from {reference:?}: in vectors");
         }
     }
 }
 
-/// Each refusal with those that stand after it: 7, 8, 12, 13, 9, 10. The drawing has 6 points and 8 triangles.
+/// Each refusal with those that stand after it: 14, 15, 7, 8, 12, 13, 9, 10. The drawing has 6 points and 8 triangles.
 #[test]
 fn of_several_refusals_the_first_in_order_is_given() {
     let beyond = [0, 1_025, 0];
     let wet = document::centre_wet;
     let open = || document::wet_at(&[0], &[[512, 512, 0]], 1.0);
     let unsounded = || document::wet_at(&[0], &[[512, 512, 0]], f32::NAN);
-    let cases: [(u32, Survey, [u32; 3], [usize; 2]); 8] = [
+    let stray = |survey: Survey| survey.amended([Record { place: [1; 3], sounding: f32::NAN, day: 0 }]);
+    let part = |survey: Survey| Survey { amendments: stray(open()).amendments[..11].to_vec(), ..survey };
+    let cases: [(u32, Survey, [u32; 3], [usize; 2]); 10] = [
+        (14, part(unsounded().at(f32::INFINITY)), beyond, [0, 0]),
+        (15, stray(unsounded().at(f32::INFINITY)), beyond, [0, 0]),
         (7, unsounded().at(f32::INFINITY), beyond, [0, 0]),
         (8, open().at(f32::NEG_INFINITY), beyond, [0, 0]),
         (8, wet().at(1_048_577.0), beyond, [18, 24]),

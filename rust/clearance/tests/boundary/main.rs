@@ -6,6 +6,8 @@ mod guarded;
 #[path = "../number/mod.rs"]
 mod number;
 mod stack;
+#[path = "../tables/mod.rs"]
+mod tables;
 
 use std::collections::BTreeSet;
 use std::ops::{Deref, DerefMut};
@@ -51,11 +53,17 @@ struct Lent<'a> {
     lender: Lender,
     cells: Box<dyn Deref<Target = [u8]>>,
     corners: Box<dyn Deref<Target = [u8]>>,
+    amendments: Box<dyn Deref<Target = [u8]>>,
     clearance: f32,
     what: &'a str,
 }
 
 impl Lent<'_> {
+    /// The tables as the calls take them.
+    fn tables(&self) -> clearance::Survey<'_> {
+        clearance::Survey::new(&self.cells, &self.corners).amended(&self.amendments)
+    }
+
     /// Makes a call with slices of these lengths. If it is refused, it must leave both as they were.
     fn lend<R>(
         &self,
@@ -75,17 +83,16 @@ impl Lent<'_> {
 
     /// Reckons the space inside, with slices of these lengths.
     fn reckon(&self, reference: [u32; 3], points: usize, triangles: usize) -> Slices<Result<Water, Refused>> {
-        let Lent { cells, corners, clearance, .. } = self;
         self.lend(points, triangles, |floats, numbers| {
-            clearance::volume(cells, corners, *clearance, reference, floats, numbers)
+            clearance::volume(self.tables(), self.clearance, reference, floats, numbers)
         })
     }
 
     /// Draws into slices of these lengths, and reckons the space inside with others alike: result and elements must be the same.
     fn draw(&self, points: usize, triangles: usize) -> (Result<Counts, Refused>, Vec<f32>) {
-        let Lent { cells, corners, clearance, what, .. } = self;
+        let what = self.what;
         let (result, floats, numbers) = self.lend(points, triangles, |floats, numbers| {
-            clearance::draw(cells, corners, *clearance, floats, numbers)
+            clearance::draw(self.tables(), self.clearance, floats, numbers)
         });
         let (reckoned, same_floats, same_numbers) = self.reckon([1_024, 0, 512], points, triangles);
         assert_eq!(reckoned.map(|water| water.counts), result, "{what}: volume");
@@ -126,14 +133,15 @@ impl Lent<'_> {
     /// Asks, at a few corners, about an edge of each length, most of which no cell has. The answers must be of these points; gives back how many were
     /// crossing.
     fn assert_answered(&self, points: &[f32]) -> usize {
-        let places: Vec<_> = plain::corners(&self.corners).map(|(place, _)| place.map(u32::from)).collect();
+        let records = plain::records(&self.corners);
+        let places: Vec<_> = records.map(|record| record.place.map(u32::from)).collect();
         let few = places.iter().enumerate().step_by(1 + places.len() / 3);
         let asked = few.flat_map(|(n, &place)| (0..=11).map(move |level| (n as u32 % 4, place, 1 << level)));
         asked.filter(|&(axis, place, length)| self.is_crossing(points, axis, place, length)).count()
     }
 
     fn is_crossing(&self, points: &[f32], axis: u32, lower_end: [u32; 3], length: u32) -> bool {
-        match clearance::enquire(&self.cells, &self.corners, self.clearance, axis, lower_end, length) {
+        match clearance::enquire(self.tables(), self.clearance, axis, lower_end, length) {
             Ok(Edge::Crossing { number, place, .. }) => {
                 assert_eq!(bits(&place), bits(&points[3 * number as usize..][..3]), "{}", self.what);
                 true
@@ -145,8 +153,8 @@ impl Lent<'_> {
 
     /// All calls refuse the survey alike.
     fn assert_refused(&self, refusal: u32) {
-        let Lent { cells, corners, clearance, what, .. } = self;
-        let answer = clearance::enquire(cells, corners, *clearance, 0, [0; 3], 1_024);
+        let what = self.what;
+        let answer = clearance::enquire(self.tables(), self.clearance, 0, [0; 3], 1_024);
         assert_eq!(number(answer), refusal, "{what}: enquiry");
         let (result, _) = self.draw(7, 5);
         assert_eq!(number(result), refusal, "{what}: drawing");
@@ -166,12 +174,12 @@ struct Seen {
 
 /// Makes all calls with slices that a lender lends.
 fn look(survey: &Survey, lender: Lender, what: &str) -> Seen {
-    let Survey { cells, corners, clearance } = survey;
-    let (cells, corners) = (lender.table(cells), lender.table(corners));
+    let Survey { cells, corners, amendments, clearance } = survey;
+    let [cells, corners, amendments] = [cells, corners, amendments].map(|table| lender.table(table));
     let what = &format!("{lender:?}, {what}");
-    let lent = Lent { lender, cells, corners, clearance: *clearance, what };
+    let lent = Lent { lender, cells, corners, amendments, clearance: *clearance, what };
     let refusal = refusals::of_drawing(survey);
-    let check = number(clearance::check(&lent.cells, &lent.corners));
+    let check = number(clearance::check(lent.tables()));
     assert_eq!(check, refusals::by_itself(refusal), "{what}: check");
     let points = match refusal {
         0 => lent.assert_drawn(),
@@ -195,7 +203,7 @@ fn assert_lawful_within(lender: Lender, surveys: u64) {
     for (what, survey) in generate::named("mixed", 0..surveys, generate::mixed) {
         let seen = look(&survey, lender, &what);
         match seen.refusal {
-            0 => tally.add_drawn(seen.points),
+            0 => tally.add_drawn(&survey, seen.points),
             OPEN_AT_BOX => tally.add_open(),
             refusal => panic!("{what}: refusal {refusal}"),
         }
@@ -213,7 +221,7 @@ fn assert_others_within(lender: Lender, surveys: u64) {
     let corrupted = generate::named("corrupted", 0..surveys, damage::corrupted);
     let others = examples.chain(long_loop).chain(damaged).chain(corrupted);
     let met: BTreeSet<u32> = others.map(|(what, survey)| look(&survey, lender, &what).refusal).collect();
-    let due = BTreeSet::from([0, 1, 2, 3, 4, 5, 6, 7, 8, OPEN_AT_BOX]);
+    let due: BTreeSet<u32> = refusals::ORDER.into_iter().chain([0, OPEN_AT_BOX]).collect();
     assert!(surveys < 100 || met == due, "refusals met: {met:?}");
 }
 
@@ -247,21 +255,28 @@ fn commit(trespass: &str) {
         return stack::use_more();
     }
     let survey = document::twin();
+    let tables = clearance::Survey::new(&survey.cells, &survey.corners);
     let side = if trespass == "read before" { Side::Before } else { Side::After };
-    let length = survey.corners.len();
-    let one_short = Guarded::new(&survey.corners[..length - 1], side).sealed();
-    let first = one_short.first();
-    // SAFETY: unsound on purpose. Each leaves its slice by one byte, or writes to what is for reading only.
+    // The last day, which need not be read, and a part of the last sounding are missing.
+    let [length, lent] = [survey.corners.len(), survey.corners.len() - 3];
+    let short = Guarded::new(&survey.corners[..lent], side).sealed();
+    let first = short.first();
+    // SAFETY: unsound on purpose. Each leaves its slice by one byte or more, or writes to what is for reading only.
     unsafe {
         let _ = match trespass {
             "read before" => u32::from(first.sub(1).read_volatile()),
-            "read after" => u32::from(first.add(length - 1).read_volatile()),
+            "read after" => u32::from(first.add(lent).read_volatile()),
             "write to a table" => {
                 first.cast_mut().write_volatile(0);
                 0
             }
-            "lend a byte too many" => {
-                number(clearance::check(&survey.cells, std::slice::from_raw_parts(first, length)))
+            "lend more corners than there are" => {
+                let corners = std::slice::from_raw_parts(first, length);
+                number(clearance::check(clearance::Survey { corners, ..tables }))
+            }
+            "lend more amendments than there are" => {
+                let amendments = std::slice::from_raw_parts(first, length);
+                number(clearance::check(clearance::Survey { amendments, ..tables }))
             }
             _ => panic!("no such trespass"),
         };
@@ -282,7 +297,14 @@ fn leaving_what_was_lent_ends_the_process() {
     }
     const SIGABRT: i32 = 6; // from Rust's own handler, which knows the page below a stack
     const SIGSEGV: i32 = 11;
-    for trespass in ["read before", "read after", "write to a table", "lend a byte too many"] {
+    let trespasses = [
+        "read before",
+        "read after",
+        "write to a table",
+        "lend more corners than there are",
+        "lend more amendments than there are",
+    ];
+    for trespass in trespasses {
         assert_eq!(after_committing(trespass).signal(), Some(SIGSEGV), "{trespass}");
     }
     assert_eq!(after_committing("use more stack").signal(), Some(SIGABRT));
