@@ -1,9 +1,10 @@
 /*
  * Clearance surfaces over a lock survey: the proved library for C and C++.
  *
- * A survey is a cell table (an octree) and a corner table (a sounding at every corner of every cell). At a clearance the surface between wet and dry
- * corners is drawn as points on the octree's edges and triangles between them. The calls are those of document 01, the scope document, with what the
- * requests of document 02 add and change; what they return, and what they write, is proved equal to the documents' rules for every input.
+ * A survey is a cell table (an octree), a corner table (a sounding at every corner of every cell) and amendments to that (corners sounded again). At a
+ * clearance the surface between wet and dry corners is drawn as points on the octree's edges and triangles between them. The calls are those of document
+ * 01, the scope document, with what the requests of document 02 add and change; what they return, and what they write, is proved equal to the documents'
+ * rules for every input.
  *
  * BUILDING
  *
@@ -14,41 +15,63 @@
  *
  * THE TABLES
  *
- * Both are records of one size without a header, little-endian.
+ * All are records of one size without a header, little-endian.
  *
- *   cell      4 bytes   0 for a leaf, else the record number of the first of eight children in a row
- *   corner   10 bytes   x, y, z (16 bits unsigned each), then the sounding (IEEE 754 binary32)
+ *   cell         4 bytes   0 for a leaf, else the record number of the first of eight children in a row
+ *   corner      12 bytes   x, y, z (16 bits unsigned each), then the sounding (IEEE 754 binary32), then the number of its day (16 bits unsigned)
+ *   amendment   12 bytes   as a corner
  *
  * The box runs from 0 to 1,024 on x, y and z. Cell record 0 is the whole box, of depth 0; a cell of depth 10 is not split. The child in place i (0 to 7)
  * is in the upper half of x if bit 0 of i is set, of y for bit 1, of z for bit 2. If k split records come before a split record, its entry is 1 + 8k and
  * greater than its own record number. The table has 1 + 8 * (number of split records) records, at most 2,049.
  *
  * Corner records rise strictly by z, then y, then x. There is one for every corner of every cell and none else, at most 4,872. A corner is wet if its
- * sounding is greater than the clearance, else dry: ground exactly at the clearance, just awash, is dry. The two zeros are equal.
+ * sounding in force is greater than the clearance, else dry: ground exactly at the clearance, just awash, is dry. The two zeros are equal.
+ *
+ * AMENDMENTS
+ *
+ * A corner that was sounded again, after dredging say, need not be changed in the corner table. A record of its place, the new sounding and its day goes
+ * into an amendment table, which is lent beside the corner table. It holds at most 1,000 records, in any order, and may have several for one corner. It may
+ * be empty: then there are no amendments, and days mean nothing.
+ *
+ * For each corner one record is in force, the corner table's or an amendment: that of the highest day. Among equal days an amendment beats the corner table,
+ * and a later amendment an earlier one. Every call answers for the survey so amended, as if each record in force stood in the corner table and there were
+ * no amendments.
+ *
+ * An amendment must be at a corner of a cell even if it is not in force (15). But the sounding of a record that is not in force, in either table, may be
+ * anything, not a number too: so an amendment can put right a corner table that would be refused for a sounding (7).
+ *
+ * Corner tables from before amendments have records of 10 bytes, without a day. The command-line tool converts them (clearance convert OLD NEW): all get
+ * day 0, so that every amendment beats them.
  *
  * WHAT THE CALLER LENDS
  *
  * A slice passes as a pointer and a number of elements (not bytes). It is lent for the call: nothing of it is kept, and it stays the caller's to free.
  *
- *   - Cell and corner tables are read only, may lie at any address, and may overlap each other.
+ *   - Cell, corner and amendment tables are read only, may lie at any address, and may overlap each other.
  *   - Point and triangle slices are aligned to 4 bytes and overlap no other slice.
  *   - A slice of 0 elements may have any pointer, NULL too: it is not followed.
  *   - Nobody else writes to a slice while the call runs.
  *
  * No bytes in the tables and no clearance, not a number among them, can make a call read or write outside what it was lent, or run on without end.
  *
- * A call allocates nothing and keeps nothing, so any number of threads may call at once. It needs less than 512 KiB of stack. Arithmetic is that of the
- * thread: it must be as a C program starts, rounding to nearest and with subnormal numbers kept, or what is drawn may differ. (GCC's -ffast-math, given
- * when a program is linked, makes it start otherwise.)
+ * A call allocates nothing and keeps nothing, so any number of threads may call at once. It needs less than 512 KiB of stack without amendments, and less
+ * than 576 KiB with them. Arithmetic is that of the thread: it must be as a C program starts, rounding to nearest and with subnormal numbers kept, or what
+ * is drawn may differ. (GCC's -ffast-math, given when a program is linked, makes it start otherwise.)
  *
  * REFUSALS
  *
- * What can't be drawn is refused by a number, enum clearance_refusal below. Checks run in rising number, but for 12 and 13, which stand between 8 and 9;
- * the first that applies is returned. A refused call has written nothing.
+ * What can't be drawn is refused by a number, enum clearance_refusal below. Checks run in rising number, but for 12 and 13, which stand between 8 and 9,
+ * and 14 and 15, which stand between 6 and 7; the first that applies is returned. A refused call has written nothing. In their order:
+ *
+ *   clearance_check     1 2 3 4 5 6 14 15 7
+ *   clearance_enquire   1 2 3 4 5 6 14 15 7 8 11
+ *   clearance_draw      1 2 3 4 5 6 14 15 7 8 12 9 10
+ *   clearance_volume    1 2 3 4 5 6 14 15 7 8 12 13 9 10
  *
  * So a number's size does not tell what it means. A drawing is there to be had with 0, CLEARANCE_POINT_SLICE and CLEARANCE_TRIANGLE_SLICE, and with
  * nothing else: ask for these by name. A program that takes every number from CLEARANCE_POINT_SLICE on for a drawing takes a pool that is open at the
- * box (12), or a reference beyond it (13), for an empty one.
+ * box (12), or an amendment at no corner (15), for an empty one.
  */
 #ifndef CLEARANCE_H
 #define CLEARANCE_H
@@ -60,32 +83,48 @@
 extern "C" {
 #endif
 
+/* The size of a corner record, and of an amendment, in bytes. */
+#define CLEARANCE_CORNER_BYTES 12
+
 /* The longest tables that are not refused, in bytes. */
 #define CLEARANCE_MOST_CELL_BYTES 8196
-#define CLEARANCE_MOST_CORNER_BYTES 48720
+#define CLEARANCE_MOST_CORNER_BYTES 58464
+#define CLEARANCE_MOST_AMENDMENT_BYTES 12000
 
 /* The numbers returned: 0 if nothing is refused, else why. */
 enum clearance_refusal {
     CLEARANCE_CELL_TABLE = 1, /* the cell table is empty, not whole records, or over 8,196 bytes */
-    CLEARANCE_CORNER_TABLE = 2, /* the corner table is empty, not whole records, or over 48,720 bytes */
+    CLEARANCE_CORNER_TABLE = 2, /* the corner table is empty, not whole records, or over 58,464 bytes */
     CLEARANCE_CELL_ENTRY = 3, /* a cell entry or the record count breaks the rule of the cell table */
     CLEARANCE_TOO_DEEP = 4, /* a cell of depth 10 is split */
     CLEARANCE_CORNER_ORDER = 5, /* corner records don't rise strictly */
     CLEARANCE_CORNER_SET = 6, /* a cell's corner is missing, or a record is no cell's corner */
-    CLEARANCE_SOUNDING = 7, /* a sounding is not finite or beyond ±1,048,576 */
+    CLEARANCE_SOUNDING = 7, /* a sounding in force is not finite or beyond ±1,048,576 */
     CLEARANCE_CLEARANCE = 8, /* the clearance is not finite or beyond ±1,048,576 */
     CLEARANCE_POINT_SLICE = 9, /* the point slice is too short */
     CLEARANCE_TRIANGLE_SLICE = 10, /* the triangle slice is too short */
     CLEARANCE_NO_EDGE = 11, /* no cell has this edge */
     CLEARANCE_OPEN_AT_BOX = 12, /* the pool runs out of the surveyed box (a corner on an outer face is wet) */
-    CLEARANCE_REFERENCE = 13 /* a coordinate of the reference point is above 1,024 */
+    CLEARANCE_REFERENCE = 13, /* a coordinate of the reference point is above 1,024 */
+    CLEARANCE_AMENDMENT_TABLE = 14, /* the amendment table is not whole records or over 12,000 bytes */
+    CLEARANCE_AMENDMENT_PLACE = 15 /* an amendment is at no cell's corner */
 };
 
 /*
- * Checks a survey by itself. Returns 0, or the first refusal of 1 to 7 that applies. A survey that passes may still be refused for drawing by 12: whether
- * a corner on an outer face is wet depends on the clearance.
+ * Checks a survey by itself. Returns 0, or the first refusal that applies. A survey that passes may still be refused for drawing by 12: whether a corner
+ * on an outer face is wet depends on the clearance.
  */
-uint32_t clearance_check(const uint8_t *cells, size_t cells_length, const uint8_t *corners, size_t corners_length);
+uint32_t clearance_check(const uint8_t *cells, size_t cells_length, const uint8_t *corners, size_t corners_length,
+    const uint8_t *amendments, size_t amendments_length);
+
+/* An edge to ask about. */
+struct clearance_edge {
+    uint32_t axis; /* along which it runs: 0, 1, 2 for x, y, z */
+    uint32_t x; /* where its lower end is */
+    uint32_t y;
+    uint32_t z;
+    uint32_t length;
+};
 
 /* The ends of an edge: the lower and the upper one on its axis. */
 enum clearance_end {
@@ -95,7 +134,7 @@ enum clearance_end {
 
 /* What the enquiry says of an edge. */
 struct clearance_reply {
-    uint32_t number; /* 0, or the first refusal of 1 to 8 or 11 that applies; then all else is 0 */
+    uint32_t number; /* 0, or the first refusal that applies; then all else is 0 */
     uint32_t crossing; /* 1 if one end is wet and one is dry; 0 if the edge is even, and then all else is 0 */
     uint32_t point; /* the number of the edge's point among the survey's crossing points at this clearance, from 0; a drawing, if any (12), has this order */
     float x; /* where the point is */
@@ -105,18 +144,17 @@ struct clearance_reply {
 };
 
 /*
- * Asks about the edge of some cell that runs along an axis (0, 1, 2 for x, y, z) from its lower end (x, y, z) over a length. If it is divided and crossing,
- * its point is that of the half that is crossing, and so on down. Numbers that are no cell's edge are refused (11). A survey that is open at the box (12)
- * is answered for as any other.
+ * Asks about the edge of some cell. If it is divided and crossing, its point is that of the half that is crossing, and so on down. Numbers that are no
+ * cell's edge are refused (11). A survey that is open at the box (12) is answered for as any other.
  */
 struct clearance_reply clearance_enquire(const uint8_t *cells, size_t cells_length, const uint8_t *corners, size_t corners_length,
-    float clearance, uint32_t axis, uint32_t x, uint32_t y, uint32_t z, uint32_t length);
+    const uint8_t *amendments, size_t amendments_length, float clearance, struct clearance_edge edge);
 
 /* What drawing returns. */
 struct clearance_counts {
-    uint32_t number; /* 0 if drawn, else the first refusal of 1 to 8, 12, 9 or 10, in this order, that applies */
-    uint32_t points; /* how many points and triangles the drawing has, not elements; with refusals 1 to 8 and 12 both are 0, */
-    uint32_t triangles; /* with 9 and 10 both are what the drawing needs */
+    uint32_t number; /* 0 if drawn, else the first refusal that applies */
+    uint32_t points; /* how many points and triangles the drawing has, not elements; with 9 and 10 both are what the drawing needs, */
+    uint32_t triangles; /* with every other refusal both are 0 */
 };
 
 /*
@@ -135,19 +173,25 @@ struct clearance_counts {
  * any other number where the survey is refused.
  */
 struct clearance_counts clearance_draw(const uint8_t *cells, size_t cells_length, const uint8_t *corners, size_t corners_length,
-    float clearance, float *points, size_t points_length, uint32_t *triangles, size_t triangles_length);
+    const uint8_t *amendments, size_t amendments_length, float clearance, float *points, size_t points_length, uint32_t *triangles, size_t triangles_length);
+
+/* A point of the box to reckon a volume from, in whole units. */
+struct clearance_reference {
+    uint32_t x;
+    uint32_t y;
+    uint32_t z;
+};
 
 /* What reckoning the volume returns. */
 struct clearance_water {
-    uint32_t number; /* 0 if drawn, else the first refusal of 1 to 8, 12, 13, 9 or 10, in this order, that applies */
-    uint32_t points; /* as in clearance_counts; with refusal 13 too both are 0 */
+    uint32_t number; /* 0 if drawn, else the first refusal that applies */
+    uint32_t points; /* as in clearance_counts */
     uint32_t triangles;
     int64_t sixfold; /* six times the volume inside, in cubic sixteenths of a unit; 0 for an empty drawing and with every refusal */
 };
 
 /*
- * Draws as clearance_draw does, with the same counts and the same elements in both slices, and reckons the space inside the surface from a reference point
- * (x, y, z) of the box, in whole units.
+ * Draws as clearance_draw does, with the same counts and the same elements in both slices, and reckons the space inside the surface from a reference point.
  *
  * For this alone each coordinate of each point is taken down to a whole sixteenth. The sum over all triangles of the determinant of the three corners, in
  * their order, taken from the reference, is six times the volume. In cubic units the volume is sixfold / 24576.0, since a cubic unit has 4,096 cubic
@@ -159,7 +203,8 @@ struct clearance_water {
  * The sum is the same for every reference, and neither it nor any step on the way to it is too large for 64 bits. This is proved.
  */
 struct clearance_water clearance_volume(const uint8_t *cells, size_t cells_length, const uint8_t *corners, size_t corners_length,
-    float clearance, uint32_t x, uint32_t y, uint32_t z, float *points, size_t points_length, uint32_t *triangles, size_t triangles_length);
+    const uint8_t *amendments, size_t amendments_length, float clearance, struct clearance_reference reference, float *points, size_t points_length,
+    uint32_t *triangles, size_t triangles_length);
 
 #ifdef __cplusplus
 }

@@ -1,6 +1,6 @@
 //! The surveys of document 01, "Surveys to try", and a few small ones, with what is known of them. Where
 //! document 02 changes what document 01 says of a survey, its request is named. The lists have those of
-//! [`resounded`](crate::resounded) too.
+//! [`resounded`] too.
 //!
 //! Clearance 0, wet +1, dry −1 unless said.
 
