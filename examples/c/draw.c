@@ -1,6 +1,6 @@
 /*
- * Draws the survey in a directory, and prints the listing of document 01's drawing program: points and triangles, or `refused` and a number. The files
- * are `cells`, `corners` and `clearance`; a missing file counts as empty. The slices are as long as the drawing needs.
+ * Draws the survey in a directory, and prints the listing of the documents' drawing program: points and triangles, or `refused` and a number. The files
+ * are `cells`, `corners`, `amendments` and `clearance`; a missing file counts as empty. The slices are as long as the drawing needs.
  *
  *     cc -I include examples/c/draw.c target/staticlib/libclearance.a -o draw && ./draw examples/twin
  */
@@ -18,6 +18,8 @@ struct survey {
     size_t cells_length;
     uint8_t corners[CLEARANCE_MOST_CORNER_BYTES + 1];
     size_t corners_length;
+    uint8_t amendments[CLEARANCE_MOST_AMENDMENT_BYTES + 1];
+    size_t amendments_length;
     float clearance;
 };
 
@@ -63,8 +65,8 @@ static float read_clearance(const char *directory)
 
 static struct clearance_counts draw_into(const struct survey *survey, float *points, size_t points_length, uint32_t *triangles, size_t triangles_length)
 {
-    return clearance_draw(survey->cells, survey->cells_length, survey->corners, survey->corners_length, survey->clearance, points, points_length,
-        triangles, triangles_length);
+    return clearance_draw(survey->cells, survey->cells_length, survey->corners, survey->corners_length, survey->amendments, survey->amendments_length,
+        survey->clearance, points, points_length, triangles, triangles_length);
 }
 
 /* Asks for the counts with slices of no elements, then draws into slices that are just long enough. */
@@ -125,6 +127,7 @@ int main(int count, char **arguments)
     const char *directory = count > 1 ? arguments[1] : ".";
     survey.cells_length = read_file(directory, "cells", survey.cells, sizeof survey.cells);
     survey.corners_length = read_file(directory, "corners", survey.corners, sizeof survey.corners);
+    survey.amendments_length = read_file(directory, "amendments", survey.amendments, sizeof survey.amendments);
     survey.clearance = read_clearance(directory);
 
     struct drawing drawing = draw(&survey);

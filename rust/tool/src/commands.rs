@@ -12,6 +12,7 @@ use surveys::plain::Plain;
 use surveys::Survey;
 
 use crate::arguments::{axis, degrees, flag, number, path, place, taken, taken_place, words};
+use crate::convert;
 use crate::examples;
 use crate::facts;
 use crate::failure::{refused, Failure};
@@ -37,6 +38,8 @@ impl From<String> for Printed {
 const DIRECTORY: &str = "DIR";
 const AXIS: &str = "AXIS (x, y, z or 0, 1, 2)";
 const REFERENCE: &str = "reference";
+const OLD: &str = "OLD";
+const NEW: &str = "NEW";
 
 struct Command {
     name: &'static str,
@@ -58,19 +61,21 @@ macro_rules! mesh_help {
             "Prints the surface as ",
             $format,
             ". Decimal numbers read back as the same binary32. As a whole the surface\n\
-             turns counter-clockwise seen from the dry side; a single triangle may turn the other way. A missing file is an error."
+             turns counter-clockwise seen from the dry side; a single triangle may turn the other way. A missing file of cells,\n\
+             corners or clearance is an error."
         )
     };
 }
 
-const COMMANDS: [Command; 9] = [
+const COMMANDS: [Command; 10] = [
     Command {
         name: "check",
         arguments: "DIR",
         summary: "say whether a survey is lawful",
-        help: "Prints 'lawful', or 'refused', the number of the first refusal of 1 to 7 that applies, and its words.\n\
-               Reads cells and corners; the clearance is not looked at. So a lawful survey may still be refused for drawing, by\n\
-               12, if the pool runs out of the surveyed box. A missing file is an error.",
+        help: "Prints 'lawful', or 'refused', the number of the first refusal of 1 to 6, 14, 15 and 7, in this order, that\n\
+               applies, and its words. Reads cells, corners and amendments; the clearance is not looked at. So a lawful survey\n\
+               may still be refused for drawing, by 12, if the pool runs out of the surveyed box. A missing file of cells or\n\
+               corners is an error.",
         takes: directory_alone,
         run: check,
     },
@@ -92,7 +97,7 @@ const COMMANDS: [Command; 9] = [
         summary: "ask about one edge",
         help: "Asks about the edge along AXIS (x, y, z or 0, 1, 2) from the lower end (X, Y, Z) over LENGTH. Prints 'even',\n\
                or 'crossing', the point's number, its x, y and z, and 'lower end wet' or 'upper end wet'. A pool that runs\n\
-               out of the surveyed box is answered for too. A missing file is an error.",
+               out of the surveyed box is answered for too. A missing file of cells, corners or clearance is an error.",
         takes: || [vec![path(DIRECTORY), axis(AXIS)], ["X", "Y", "Z", "LENGTH"].map(number).to_vec()].concat(),
         run: enquire,
     },
@@ -102,7 +107,8 @@ const COMMANDS: [Command; 9] = [
         summary: "count cells, corners, points and triangles; give the volume",
         help: "Prints the cell records, the greatest depth, the leaves, corners, points and triangles, and the volume inside\n\
                the surface in cubic units, as 'volume' gives it; the whole box has 1073741824. A pool that runs out of the\n\
-               surveyed box is refused whole, by 12: nothing of it is counted. A missing file is an error.",
+               surveyed box is refused whole, by 12: nothing of it is counted. Where there are amendments, they are counted too,\n\
+               and those in force. A missing file of cells, corners or clearance is an error.",
         takes: directory_alone,
         run: info,
     },
@@ -114,8 +120,8 @@ const COMMANDS: [Command; 9] = [
                times the space in cubic sixteenths of a unit (a cubic unit has 4096), a whole number. For both, each coordinate of\n\
                each point is taken down to a whole sixteenth.\n\
                --reference X Y Z  reckon from this point of the box, in whole units (0 0 0); every point gives the same\n\
-               A coordinate above 1024 is refused by 13, and a pool that runs out of the surveyed box by 12. A missing file is\n\
-               an error.",
+               A coordinate above 1024 is refused by 13, and a pool that runs out of the surveyed box by 12. A missing file of\n\
+               cells, corners or clearance is an error.",
         takes: || vec![path(DIRECTORY), place(REFERENCE)],
         run: volume,
     },
@@ -146,7 +152,7 @@ const COMMANDS: [Command; 9] = [
                --cells         show the edges of the cells; the surface hides those behind it\n\
                --inside        look into the wet space: leave out the sides towards the viewer\n\
                --near          let the surface fill the picture, and not the box\n\
-               A missing file of the survey is an error. The picture is written over.",
+               A missing file of cells, corners or clearance is an error. The picture is written over.",
         takes: || {
             let looks = [degrees("turn", "30"), degrees("tilt", "35")];
             let flags = ["edges", "cells", "inside", "near"].map(flag);
@@ -155,11 +161,23 @@ const COMMANDS: [Command; 9] = [
         run: render,
     },
     Command {
+        name: "convert",
+        arguments: "OLD NEW",
+        summary: "give a corner table of 10-byte records days",
+        help: "Reads the corner table in the file OLD, with records of 10 bytes as they were before amendments, and writes it into\n\
+               the new file NEW with records of 12 bytes, all of day 0. OLD stays as it is, and no file is written over:\n\
+               clearance convert pool/corners pool/corners-12 && mv pool/corners-12 pool/corners\n\
+               Nothing is written if OLD is empty, not whole records of 10 bytes or over 48720 bytes, if its records don't rise,\n\
+               as those of a corner table do, or if it has records of 12 bytes already: that is an error.",
+        takes: || vec![path(OLD), path(NEW)],
+        run: convert,
+    },
+    Command {
         name: "example",
         arguments: "[NAME DIR]",
         summary: "write an example survey, or list the names",
-        help: "Writes the files cells, corners and clearance of the example NAME into DIR, which is made if need be. No file is\n\
-               written over. Without arguments, lists the names.",
+        help: "Writes the files cells, corners and clearance of the example NAME, and amendments if it has any, into DIR, which is\n\
+               made if need be. No file is written over. Without arguments, lists the names.",
         takes: || vec![path("NAME").required(false).requires(DIRECTORY), path(DIRECTORY).required(false)],
         run: example,
     },
@@ -214,7 +232,8 @@ fn overview() -> String {
     format!(
         "Checks and draws lock surveys: the clearance surface over an octree of soundings, by the proved library.\n\n\
          usage: clearance COMMAND ARGUMENTS\n\n{}\n\
-         DIR is a directory with the files cells, corners and clearance (four bytes, a little-endian binary32).\n\
+         DIR is a directory with the files cells, corners and clearance (four bytes, a little-endian binary32), and amendments if\n\
+         corners were sounded again; without this file there are none. Of several records for a corner that of the highest day holds.\n\
          A corner is wet if its sounding is greater than the clearance; ground exactly at the clearance is dry.\n\
          A survey with a wet corner on an outer face of the box is not drawn; 'check' and 'enquire' still take it.\n\
          'clearance COMMAND --help' says more of a command.\n\
@@ -233,8 +252,8 @@ fn directory(arguments: &ArgMatches) -> &Path {
 }
 
 fn check(arguments: &ArgMatches) -> Result<Printed, Failure> {
-    let (cells, corners) = files::read_tables(directory(arguments))?;
-    Ok(match clearance::check(&cells, &corners) {
+    let [cells, corners, amendments] = files::read_tables(directory(arguments))?;
+    Ok(match clearance::check(clearance::Survey::new(&cells, &corners).amended(&amendments)) {
         Ok(()) => String::from("lawful\n").into(),
         Err(refusal) => Printed { text: refused(refusal) + "\n", status: 1 },
     })
@@ -245,7 +264,7 @@ fn draw(arguments: &ArgMatches) -> Result<Printed, Failure> {
         eprintln!("clearance: {} is missing and counts as empty", path.display());
     }
     let survey = files::read_as_program(directory(arguments))?;
-    Ok(match clearance::draw_to_vec(&survey.cells, &survey.corners, survey.clearance) {
+    Ok(match clearance::draw_to_vec(files::tables(&survey), survey.clearance) {
         Ok(mesh) => formats::listing(&mesh).into(),
         Err(refusal) => {
             eprintln!("clearance: {}", refused(refusal));
@@ -257,7 +276,7 @@ fn draw(arguments: &ArgMatches) -> Result<Printed, Failure> {
 fn enquire(arguments: &ArgMatches) -> Result<Printed, Failure> {
     let [axis, x, y, z, length] = [AXIS, "X", "Y", "Z", "LENGTH"].map(|name| *taken::<u32>(arguments, name));
     let survey = files::read(directory(arguments))?;
-    let edge = clearance::enquire(&survey.cells, &survey.corners, survey.clearance, axis, [x, y, z], length)?;
+    let edge = clearance::enquire(files::tables(&survey), survey.clearance, axis, [x, y, z], length)?;
     Ok(match edge {
         Edge::Even => String::from("even\n"),
         Edge::Crossing { number, place: [x, y, z], wet_end } => {
@@ -282,7 +301,7 @@ fn mesh(arguments: &ArgMatches, format: fn(&Mesh) -> String) -> Result<Printed, 
 }
 
 fn drawn(survey: &Survey) -> Result<Mesh, Failure> {
-    Ok(clearance::draw_to_vec(&survey.cells, &survey.corners, survey.clearance)?)
+    Ok(clearance::draw_to_vec(files::tables(survey), survey.clearance)?)
 }
 
 fn render(arguments: &ArgMatches) -> Result<Printed, Failure> {
@@ -308,6 +327,14 @@ fn cell_lines(survey: &Survey) -> Vec<[Vector; 2]> {
     let plain = Plain::read(survey);
     let undivided = plain.edges.iter().filter(|&&edge| !plain.is_divided(edge));
     undivided.map(|edge| [edge.low(), edge.high()].map(|end| end.map(f64::from))).collect()
+}
+
+fn convert(arguments: &ArgMatches) -> Result<Printed, Failure> {
+    let [old, new] = [OLD, NEW].map(|name| Path::new(taken::<OsString>(arguments, name)));
+    let table = std::fs::read(old).map_err(Failure::of_file(old))?;
+    let dated = convert::dated(&table).map_err(|words| Failure::Unfit { path: old.to_path_buf(), words })?;
+    files::write_new(new, &dated)?;
+    Ok(String::new().into())
 }
 
 fn example(arguments: &ArgMatches) -> Result<Printed, Failure> {

@@ -1,8 +1,11 @@
-//! Surveys by name: those of document 01, two of ground awash, and basins sounded over octrees of several depths, one of which runs out of the box.
+//! Surveys by name: those of document 01, two of ground awash, some with amendments, and basins sounded over octrees of several depths, one of which runs
+//! out of the box.
 
-use surveys::{document, Survey};
+use surveys::plain::records;
+use surveys::survey::Record;
+use surveys::{document, resounded, Survey};
 
-use crate::refine::{self, Fineness, MOST_SPLITS};
+use crate::refine::{self, sounding, Fineness, MOST_SPLITS};
 use crate::shapes;
 
 /// A survey to try.
@@ -37,6 +40,22 @@ fn open_pool() -> Survey {
     refine::survey(cut_off, Fineness { graded: true, ..FINENESS })
 }
 
+/// The weir pool after a channel was dredged through its crest: of the corners that are wet by this, the dozen that it has changed most were sounded again
+/// on day 131. The first of them had been sounded the day before, with the work half done.
+fn dredged() -> Survey {
+    let pool = weir_pool();
+    let dredged = |place: [u16; 3]| sounding(shapes::dredged_pool(place.map(f64::from)));
+    let deepened = |corner: &Record| dredged(corner.place) - corner.sounding;
+    let is_wetted = |corner: &Record| corner.sounding <= 0.0 && dredged(corner.place) > 0.0;
+    let mut corners: Vec<Record> = records(&pool.corners).filter(is_wetted).collect();
+    corners.sort_by(|one, other| deepened(other).total_cmp(&deepened(one)));
+    corners.truncate(12);
+    let half_done = corners[0].sounding + deepened(&corners[0]) / 2.0;
+    let the_day_before = Record { sounding: half_done, day: 130, ..corners[0] };
+    let resounded = |corner: Record| Record { sounding: dredged(corner.place), day: 131, ..corner };
+    pool.amended(corners.into_iter().map(resounded).chain([the_day_before]))
+}
+
 const fn drawn(name: &'static str, words: &'static str, survey: fn() -> Survey) -> Example {
     Example { name, words, refusal: 0, survey }
 }
@@ -56,7 +75,13 @@ pub const EXAMPLES: &[Example] = &[
     drawn("deep-water", "the weir pool at a clearance of 96: bowl and hole by themselves", || {
         weir_pool().at(96.0)
     }),
+    drawn("dredged", "the weir pool with a dozen corners sounded again after dredging", dredged),
     drawn("twin", "document 01's twin survey", document::twin),
+    drawn(
+        "resounded",
+        "the twin survey with its wet corner sounded again: amendments",
+        resounded::deepened_twin,
+    ),
     drawn("centre", "one split, only the centre wet", document::centre_wet),
     drawn("all-dry", "no corner wet: no points", || document::level(-1.0)),
     drawn(
@@ -77,6 +102,13 @@ pub const EXAMPLES: &[Example] = &[
     refused("refused-4", "a cell of depth 10 is split", 4, document::too_deep),
     refused("refused-7", "a sounding that is not a number", 7, || document::sounded(f32::NAN)),
     refused("refused-7-beyond", "a sounding of 1,048,576.125", 7, || document::sounded(1_048_576.125)),
+    refused("refused-14", "one byte of amendments", 14, || Survey {
+        amendments: vec![0],
+        ..document::centre_wet()
+    }),
+    refused("refused-15", "an amendment at (1,1,1), which is no corner", 15, || {
+        document::centre_wet().amended([Record { place: [1; 3], sounding: -1.0, day: 1 }])
+    }),
     refused("open-pool", "a weir pool that runs out of the surveyed box", 12, open_pool),
     refused("one-corner", "one leaf, only (0,0,0) wet: open at the box", 12, document::one_corner_wet),
     refused("all-wet", "every corner wet: open at the box", 12, || document::level(1.0)),

@@ -6,6 +6,8 @@ use clearance::{Counts, Refusal, Water};
 use surveys::survey::Cube;
 use surveys::{plain, Survey};
 
+use crate::files::tables;
+
 /// Counts of a survey and of its drawing.
 #[derive(Clone, Copy, Debug, PartialEq)]
 pub struct Facts {
@@ -17,6 +19,10 @@ pub struct Facts {
     pub leaves: usize,
     /// Corner records.
     pub corners: usize,
+    /// Amendments.
+    pub amendments: usize,
+    /// Those of them that are in force.
+    pub in_force: usize,
     /// The clearance.
     pub clearance: f32,
     /// The drawing's points and triangles, and the space inside.
@@ -31,7 +37,9 @@ pub fn facts(survey: &Survey) -> Result<Facts, Refusal> {
         records: octree.cubes.len(),
         depth: octree.cubes.iter().map(|cube: &Cube| cube.depth()).max().unwrap_or(0),
         leaves: octree.split.iter().filter(|&&split| !split).count(),
-        corners: plain::corners(&survey.corners).count(),
+        corners: plain::records(&survey.corners).count(),
+        amendments: plain::records(&survey.amendments).count(),
+        in_force: plain::in_force(survey).iter().filter(|held| held.amendment.is_some()).count(),
         clearance: survey.clearance,
         water,
     })
@@ -39,8 +47,7 @@ pub fn facts(survey: &Survey) -> Result<Facts, Refusal> {
 
 /// The space inside a survey's drawing, reckoned from a reference.
 pub fn water(survey: &Survey, reference: [u32; 3]) -> Result<Water, Refusal> {
-    let drawn = clearance::volume_to_vec(&survey.cells, &survey.corners, survey.clearance, reference);
-    drawn.map(|(_, water)| water)
+    clearance::volume_to_vec(tables(survey), survey.clearance, reference).map(|(_, water)| water)
 }
 
 /// A volume in cubic units, to the nearest thousandth and at equal distance the greater. It is reckoned in whole numbers, so that nothing is rounded but
@@ -59,6 +66,9 @@ impl fmt::Display for Facts {
         writeln!(out, "depth      {}", self.depth)?;
         writeln!(out, "leaves     {}", self.leaves)?;
         writeln!(out, "corners    {}", self.corners)?;
+        if self.amendments > 0 {
+            writeln!(out, "amendments {} ({} in force)", self.amendments, self.in_force)?;
+        }
         writeln!(out, "clearance  {}", self.clearance)?;
         let Water { counts: Counts { points, triangles }, sixfold } = self.water;
         writeln!(out, "points     {points}")?;
@@ -70,7 +80,15 @@ impl fmt::Display for Facts {
 #[cfg(test)]
 mod tests {
     use super::*;
-    use surveys::document;
+    use surveys::{document, resounded};
+
+    #[test]
+    fn amendments_are_counted_and_those_in_force() {
+        let counted = |survey| facts(&survey).map(|facts| [facts.amendments, facts.in_force]);
+        assert_eq!(counted(document::twin()), Ok([0, 0]));
+        assert_eq!(counted(resounded::deepened()), Ok([2, 1]));
+        assert_eq!(counted(resounded::deepened_twin()), Ok([3, 1]));
+    }
 
     #[test]
     fn facts_of_the_twin_survey() {

@@ -17,6 +17,13 @@ pub enum Failure {
         /// What the system said.
         error: std::io::Error,
     },
+    /// A file holds something else than it should.
+    Unfit {
+        /// The file.
+        path: PathBuf,
+        /// What is wrong with it.
+        words: &'static str,
+    },
     /// The library refused the survey, the clearance, the edge or the reference point.
     Refused(Refusal),
 }
@@ -26,7 +33,7 @@ impl Failure {
     pub fn exit_status(&self) -> u8 {
         match self {
             Failure::Refused(_) => 1,
-            Failure::Usage(_) | Failure::File { .. } => 2,
+            Failure::Usage(_) | Failure::File { .. } | Failure::Unfit { .. } => 2,
         }
     }
 
@@ -47,6 +54,7 @@ impl fmt::Display for Failure {
         match self {
             Failure::Usage(words) => out.write_str(words),
             Failure::File { path, error } => write!(out, "{}: {error}", path.display()),
+            Failure::Unfit { path, words } => write!(out, "{} {words}", path.display()),
             Failure::Refused(refusal) => out.write_str(&refused(*refusal)),
         }
     }

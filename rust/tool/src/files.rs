@@ -1,4 +1,4 @@
-//! A survey as document 01's three files of a directory: `cells`, `corners` and `clearance`.
+//! A survey as the documents' four files of a directory: `cells`, `corners`, `amendments` and `clearance`.
 
 use std::fs;
 use std::io::{self, Write};
@@ -10,28 +10,33 @@ use crate::failure::Failure;
 
 const CELLS: &str = "cells";
 const CORNERS: &str = "corners";
+const AMENDMENTS: &str = "amendments";
 const CLEARANCE: &str = "clearance";
+const NAMES: [&str; 4] = [CELLS, CORNERS, AMENDMENTS, CLEARANCE];
 
-/// Reads the cell table and the corner table. A missing file is a failure: an empty table would be refused with words about the table, when it is the
-/// directory that is wrong.
-pub fn read_tables(directory: &Path) -> Result<(Vec<u8>, Vec<u8>), Failure> {
-    Ok((read_file(directory, CELLS)?, read_file(directory, CORNERS)?))
+/// The tables of a survey as the library takes them.
+pub fn tables(Survey { cells, corners, amendments, .. }: &Survey) -> clearance::Survey<'_> {
+    clearance::Survey { cells, corners, amendments }
 }
 
-/// Reads a survey; a missing file is a failure, as in [`read_tables`].
+/// Reads the cell table, the corner table and the amendments. A missing file is a failure, but for the amendments, which most surveys have none of: an
+/// empty table would be refused with words about the table, when it is the directory that is wrong.
+pub fn read_tables(directory: &Path) -> Result<[Vec<u8>; 3], Failure> {
+    Ok([read_file(directory, CELLS)?, read_file(directory, CORNERS)?, read_if_there(directory, AMENDMENTS)?])
+}
+
+/// Reads a survey; a missing file is a failure or not as in [`read_tables`].
 pub fn read(directory: &Path) -> Result<Survey, Failure> {
-    survey(directory, read_file)
+    Ok(survey(read_tables(directory)?, read_file(directory, CLEARANCE)?))
 }
 
-/// Reads a survey as document 01's drawing program does: a missing file counts as empty.
+/// Reads a survey as the documents' drawing program does: a missing file counts as empty.
 pub fn read_as_program(directory: &Path) -> Result<Survey, Failure> {
-    survey(directory, |directory, name| match read_file(directory, name) {
-        Err(Failure::File { error, .. }) if error.kind() == io::ErrorKind::NotFound => Ok(Vec::new()),
-        read => read,
-    })
+    let [cells, corners, amendments, clearance] = NAMES.map(|name| read_if_there(directory, name));
+    Ok(survey([cells?, corners?, amendments?], clearance?))
 }
 
-/// The files of a survey that a directory lacks.
+/// The files of a survey that a directory lacks. It need not have amendments.
 pub fn missing(directory: &Path) -> Vec<PathBuf> {
     let paths = [CELLS, CORNERS, CLEARANCE].map(|name| directory.join(name));
     let is_missing =
@@ -39,20 +44,24 @@ pub fn missing(directory: &Path) -> Vec<PathBuf> {
     paths.into_iter().filter(is_missing).collect()
 }
 
-/// Writes a survey, into a new directory if there is none. Never writes over a file.
+/// Writes a survey, into a new directory if there is none. Never writes over a file, nor beside amendments of another survey.
 pub fn write(directory: &Path, survey: &Survey) -> Result<(), Failure> {
-    let clearance = survey.clearance.to_le_bytes();
-    let files = [(CELLS, &survey.cells[..]), (CORNERS, &survey.corners[..]), (CLEARANCE, &clearance[..])];
     fs::create_dir_all(directory).map_err(Failure::of_file(directory))?;
-    let exists = |(name, _): &(&str, &[u8])| directory.join(name).exists();
-    if let Some((name, _)) = files.iter().find(|file| exists(file)) {
-        return Err(Failure::of_file(&directory.join(name))(io::ErrorKind::AlreadyExists.into()));
+    if let Some(path) = NAMES.map(|name| directory.join(name)).iter().find(|path| path.exists()) {
+        return Err(Failure::of_file(path)(io::ErrorKind::AlreadyExists.into()));
     }
-    files.iter().try_for_each(|(name, bytes)| {
-        let path = directory.join(name);
-        let file = fs::OpenOptions::new().write(true).create_new(true).open(&path);
-        file.and_then(|mut file| file.write_all(bytes)).map_err(Failure::of_file(&path))
-    })
+    write_new(&directory.join(CELLS), &survey.cells)?;
+    write_new(&directory.join(CORNERS), &survey.corners)?;
+    if !survey.amendments.is_empty() {
+        write_new(&directory.join(AMENDMENTS), &survey.amendments)?;
+    }
+    write_new(&directory.join(CLEARANCE), &survey.clearance.to_le_bytes())
+}
+
+/// Writes a file that is not there yet.
+pub fn write_new(path: &Path, bytes: &[u8]) -> Result<(), Failure> {
+    let file = fs::OpenOptions::new().write(true).create_new(true).open(path);
+    file.and_then(|mut file| file.write_all(bytes)).map_err(Failure::of_file(path))
 }
 
 fn read_file(directory: &Path, name: &str) -> Result<Vec<u8>, Failure> {
@@ -60,9 +69,16 @@ fn read_file(directory: &Path, name: &str) -> Result<Vec<u8>, Failure> {
     fs::read(&path).map_err(Failure::of_file(&path))
 }
 
-fn survey(directory: &Path, read: fn(&Path, &str) -> Result<Vec<u8>, Failure>) -> Result<Survey, Failure> {
-    let [cells, corners, clearance] = [CELLS, CORNERS, CLEARANCE].map(|name| read(directory, name));
-    let (cells, corners, clearance) = (cells?, corners?, clearance?);
-    // A clearance of another length is refusal 8, after 1 to 7, as a clearance that is not a number is.
-    Ok(Survey { cells, corners, clearance: clearance.try_into().map_or(f32::NAN, f32::from_le_bytes) })
+/// Reads a file; a missing one counts as empty.
+fn read_if_there(directory: &Path, name: &str) -> Result<Vec<u8>, Failure> {
+    match read_file(directory, name) {
+        Err(Failure::File { error, .. }) if error.kind() == io::ErrorKind::NotFound => Ok(Vec::new()),
+        read => read,
+    }
+}
+
+fn survey([cells, corners, amendments]: [Vec<u8>; 3], clearance: Vec<u8>) -> Survey {
+    // A clearance of another length is refusal 8, in its order, as a clearance that is not a number is.
+    let clearance = clearance.try_into().map_or(f32::NAN, f32::from_le_bytes);
+    Survey { cells, corners, amendments, clearance }
 }

@@ -1,13 +1,14 @@
 //! The command-line tool over the proved library: checks, draws, exports and pictures surveys, and writes example surveys.
 //!
 //! - [`commands`]: the table of commands with their help, and [`run`], which picks one; [`arguments`] says what they take, and what is wrong with it.
-//! - [`files`]: a survey as the files of a directory; [`failure`]: what can go wrong, and the exit status.
+//! - [`files`]: a survey as the files of a directory; [`convert`]: corner tables of old; [`failure`]: what can go wrong, and the exit status.
 //! - [`formats`]: a mesh as document 01's listing, OBJ and PLY; [`facts`]: what `info` and `volume` say of a survey.
 //! - [`examples`]: surveys by name. [`shapes`] gives basins as distance functions, [`refine`] sounds them over an octree.
 //! - [`view`], [`shading`], [`raster`], [`picture`], [`svg`]: from a mesh to a picture file.
 
 pub mod arguments;
 pub mod commands;
+pub mod convert;
 pub mod examples;
 pub mod facts;
 pub mod failure;

@@ -37,7 +37,7 @@ pub fn survey(distance: impl Fn([f64; 3]) -> f64, fineness: Fineness) -> Survey 
 }
 
 /// The distance as an instrument reads it.
-fn sounding(distance: f64) -> f32 {
+pub fn sounding(distance: f64) -> f32 {
     ((distance * READINGS).round() / READINGS) as f32
 }
 
@@ -161,6 +161,7 @@ fn between(lattice: &[f64; 27], halves: [u8; 3]) -> f64 {
 #[cfg(test)]
 mod tests {
     use super::*;
+    use surveys::survey::Record;
     use surveys::{plain, refusals};
 
     const FINENESS: Fineness =
@@ -190,7 +191,7 @@ mod tests {
     fn corners_hold_the_distance() {
         let survey = survey(ball, FINENESS);
         assert_eq!(refusals::first(&survey), 0);
-        for (place, sounding) in plain::corners(&survey.corners) {
+        for Record { place, sounding, .. } in plain::records(&survey.corners) {
             let distance = ball(place.map(f64::from));
             assert!((f64::from(sounding) - distance).abs() <= 0.5 / READINGS + 1e-4, "{place:?}");
         }

@@ -36,6 +36,12 @@ pub fn weir_pool([x, y, z]: Place) -> f64 {
     (0.75 * (z - bed)).min(OPEN * (708.0 - z))
 }
 
+/// The weir pool after dredging: a channel goes through the drowned crest.
+pub fn dredged_pool([x, y, z]: Place) -> f64 {
+    let channel = block([x, y, z], [420.0, MIDDLE - 70.0, 550.0], [760.0, MIDDLE + 70.0, 2_000.0]);
+    weir_pool([x, y, z]).max(channel.min(OPEN * (708.0 - z)))
+}
+
 /// The height of the banks of the weir pool.
 const BANK: f64 = 790.0;
 
@@ -94,6 +100,17 @@ mod tests {
             [[290.0, 512.0, 300.0], [570.0, 512.0, 600.0], [765.0, 512.0, 130.0], [290.0, 512.0, 720.0]];
         assert_wet(weir_pool, &wet, &dry);
         assert!(weir_pool([300.0, 100.0, 700.0]) > 0.0 && weir_pool([570.0, 100.0, 700.0]) < 0.0);
+    }
+
+    #[test]
+    fn a_channel_goes_through_the_crest() {
+        let wet = [[570.0, 512.0, 600.0], [570.0, 512.0, 560.0], [570.0, 450.0, 560.0]];
+        let dry = [[570.0, 512.0, 540.0], [570.0, 430.0, 560.0], [570.0, 512.0, 720.0]];
+        assert_wet(dredged_pool, &wet, &dry);
+        assert_wet(weir_pool, &[], &wet);
+        for place in [[290.0, 512.0, 340.0], [765.0, 512.0, 170.0], [300.0, 100.0, 700.0]] {
+            assert_eq!(dredged_pool(place), weir_pool(place));
+        }
     }
 
     #[test]

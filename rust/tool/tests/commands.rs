@@ -2,11 +2,12 @@
 
 mod common;
 
-use common::{printed, root, run, survey, text, Place};
+use common::{drawn, printed, root, run, survey, text, Place};
 use surveys::{damage, document, generate};
 
 /// All commands.
-const COMMANDS: [&str; 9] = ["check", "draw", "enquire", "info", "volume", "obj", "ply", "render", "example"];
+const COMMANDS: [&str; 10] =
+    ["check", "draw", "enquire", "info", "volume", "obj", "ply", "render", "convert", "example"];
 
 fn twin() -> String {
     text(&root().join("examples/twin")).to_owned()
@@ -33,14 +34,11 @@ fn draw_lists_the_twin_survey_as_the_drawing_program_does() {
 #[test]
 fn draw_lists_more_than_the_drawing_program_lends() {
     let place = Place::new("large");
-    let large = (0..).map(generate::interior).find(|survey| {
-        let drawn = clearance::draw_to_vec(&survey.cells, &survey.corners, survey.clearance);
-        drawn.is_ok_and(|mesh| mesh.points.len() > 2_048)
-    });
+    let large = (0..).map(generate::interior).find(|survey| drawn(survey).points.len() > 2_048);
     let survey = large.expect("some survey has many points");
     clearance_tool::files::write(&place.path, &survey).expect("the survey is written");
     let listing = printed(&["draw", text(&place.path)]);
-    let mesh = clearance::draw_to_vec(&survey.cells, &survey.corners, survey.clearance).expect("lawful");
+    let mesh = drawn(&survey);
     let counts = format!("{} {}\n", mesh.points.len(), mesh.triangles.len());
     assert!(listing.starts_with(&counts), "{counts}");
     assert_eq!(listing.lines().filter(|line| line.starts_with("v ")).count(), mesh.points.len());
@@ -249,7 +247,7 @@ fn help_is_there_for_the_whole_and_for_each_command() {
 fn wrong_command_lines_are_named() {
     let place = Place::new("wrong");
     let picture = place.below("picture.gif");
-    let cases: [(&[&str], &str); 12] = [
+    let cases: [(&[&str], &str); 13] = [
         (&[], "a command is missing"),
         (&["sound"], "unknown command sound"),
         (&["help", "sound"], "unknown command sound"),
@@ -263,6 +261,7 @@ fn wrong_command_lines_are_named() {
             &["volume", "one", "--reference", "0", "0", "4294967296"],
             "--reference: 4294967296 is no number that fits",
         ),
+        (&["convert", "one"], "NEW is missing"),
         (&["render", "one", &picture], "a picture's name ends in .png or .svg"),
         (&["example", "ocean", "one"], "no example ocean"),
     ];

@@ -3,10 +3,9 @@
 mod common;
 
 use std::collections::BTreeSet;
-use std::path::Path;
 
 use clearance_tool::examples::{find, EXAMPLES};
-use common::{printed, root, run, survey, Place};
+use common::{drawn, printed, root, run, survey, Place};
 use surveys::{closing, plain, refusals};
 
 #[test]
@@ -22,7 +21,7 @@ fn every_example_is_as_it_says() {
             number => assert_eq!((draw.status, draw.out), (1, format!("refused {number}\n"))),
         }
         let check = run(&["check", &directory]);
-        match refusals::first(&survey) {
+        match refusals::by_itself(example.refusal) {
             0 => assert_eq!((check.status, check.out.as_str()), (0, "lawful\n"), "{}", example.name),
             number => assert!(check.status == 1 && check.out.starts_with(&format!("refused {number}: "))),
         }
@@ -34,13 +33,12 @@ fn every_example_that_is_drawn_closes() {
     let mut basins = 0;
     for example in EXAMPLES.iter().filter(|example| example.refusal == 0) {
         let survey = (example.survey)();
-        let mesh =
-            clearance::draw_to_vec(&survey.cells, &survey.corners, survey.clearance).expect(example.name);
+        let mesh = drawn(&survey);
         let (points, triangles) = (mesh.points.as_flattened(), mesh.triangles.as_flattened());
         assert_eq!(closing::check(&survey, points, triangles), Ok(()), "{}", example.name);
         basins += usize::from(points.len() > 3 * 100);
     }
-    assert_eq!(basins, 4);
+    assert_eq!(basins, 5);
 }
 
 #[test]
@@ -61,19 +59,16 @@ fn basins_have_cells_of_several_sizes_at_the_surface() {
 #[test]
 fn the_projects_examples_are_what_the_tool_writes() {
     let place = Place::new("same");
-    let files = |directory: &Path| {
-        let read = |name: &str| std::fs::read(directory.join(name)).expect("a file of the survey");
-        ["cells", "corners", "clearance"].map(read)
-    };
-    for name in ["twin", "lock-chamber", "weir-pool"] {
+    for name in ["twin", "resounded", "lock-chamber", "weir-pool"] {
         place.example(name);
-        let (written, kept) = (files(&place.path.join(name)), files(&root().join("examples").join(name)));
+        let [written, kept] =
+            [place.path.join(name), root().join("examples").join(name)].map(|at| survey(&at));
         assert!(written == kept, "examples/{name} is not what 'clearance example {name}' writes");
     }
 }
 
 #[test]
-fn a_smaller_clearance_holds_more_water() {
+fn a_smaller_clearance_and_dredging_make_more_water() {
     let place = Place::new("clearance");
     let volume = |name: &str| -> f64 {
         let info = printed(&["info", &place.example(name)]);
@@ -82,4 +77,12 @@ fn a_smaller_clearance_holds_more_water() {
     };
     assert!(volume("lock-chamber") > volume("hull-room"));
     assert!(volume("weir-pool") > volume("deep-water"));
+    assert!(volume("dredged") > volume("weir-pool"));
+}
+
+#[test]
+fn a_dozen_corners_of_the_dredged_pool_are_sounded_again() {
+    let place = Place::new("dredged");
+    let info = printed(&["info", &place.example("dredged")]);
+    assert!(info.contains("\namendments 13 (12 in force)\n"), "{info}");
 }

@@ -5,20 +5,14 @@ mod common;
 use std::str::FromStr;
 
 use clearance::Mesh;
-use common::{printed, Place};
+use common::{drawn, printed, survey, Place};
 
-const EXAMPLES: [&str; 4] = ["twin", "lock-chamber", "hull-room", "all-dry"];
+const EXAMPLES: [&str; 5] = ["twin", "lock-chamber", "hull-room", "dredged", "all-dry"];
 
 fn numbers<N: FromStr, const COUNT: usize>(words: &str) -> [N; COUNT] {
     let read = |word: &str| word.parse().ok().unwrap_or_else(|| panic!("{word} is no number"));
     let list: Vec<N> = words.split(' ').map(read).collect();
     list.try_into().ok().unwrap_or_else(|| panic!("{words} are not {COUNT} numbers"))
-}
-
-/// The mesh by the library, from the files that the tool wrote.
-fn drawn(place: &Place, name: &str) -> Mesh {
-    let survey = common::survey(&place.path.join(name));
-    clearance::draw_to_vec(&survey.cells, &survey.corners, survey.clearance).expect("a lawful survey")
 }
 
 fn from_obj(text: &str) -> Mesh {
@@ -61,7 +55,7 @@ fn meshes_read_back_to_the_bit() {
     let bits = |mesh: &Mesh| mesh.points.iter().map(|place| place.map(f32::to_bits)).collect::<Vec<_>>();
     for name in EXAMPLES {
         let directory = place.example(name);
-        let mesh = drawn(&place, name);
+        let mesh = drawn(&survey(&place.path.join(name)));
         let [obj, ply] = [from_obj(&printed(&["obj", &directory])), from_ply(&printed(&["ply", &directory]))];
         assert_eq!([bits(&obj), bits(&ply)], [bits(&mesh), bits(&mesh)], "{name}");
         assert_eq!([&obj.triangles, &ply.triangles], [&mesh.triangles, &mesh.triangles], "{name}");

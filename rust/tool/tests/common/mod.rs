@@ -5,6 +5,8 @@
 use std::path::{Path, PathBuf};
 use std::process::Command;
 
+use clearance::Mesh;
+use clearance_tool::files::tables;
 use surveys::Survey;
 
 /// What a run printed, and its exit status.
@@ -79,5 +81,15 @@ impl Drop for Place {
 pub fn survey(directory: &Path) -> Survey {
     let read = |name: &str| std::fs::read(directory.join(name)).expect("a file of the survey");
     let clearance = read("clearance").try_into().expect("four bytes");
-    Survey { cells: read("cells"), corners: read("corners"), clearance: f32::from_le_bytes(clearance) }
+    Survey {
+        cells: read("cells"),
+        corners: read("corners"),
+        amendments: std::fs::read(directory.join("amendments")).unwrap_or_default(),
+        clearance: f32::from_le_bytes(clearance),
+    }
+}
+
+/// The drawing of a survey that is drawn, by the library.
+pub fn drawn(survey: &Survey) -> Mesh {
+    clearance::draw_to_vec(tables(survey), survey.clearance).expect("a survey that is drawn")
 }
