@@ -3,24 +3,27 @@
 use std::cell::RefCell;
 use std::hint::black_box;
 
-use surveys::Survey;
-
 use crate::subject::Subject;
 use crate::timing::{in_turns, interleaved, ratio, Timing};
 use crate::ways::{Proved, Rust, Way};
 
-/// A call of the documents.
+/// A call of the documents, on a survey without amendments but for the last.
 #[derive(Clone, Copy, Debug)]
 pub enum Call {
     Check,
     Enquire,
     Draw,
     Volume,
+    /// A drawing with 1,000 amendments.
+    Amended,
 }
 
 impl Call {
     /// All calls, in the order in which a row has them.
-    pub const ALL: [Call; 4] = [Call::Check, Call::Enquire, Call::Draw, Call::Volume];
+    pub const ALL: [Call; 5] = [Call::Check, Call::Enquire, Call::Draw, Call::Volume, Call::Amended];
+
+    /// The calls that draw and do something more.
+    pub const MORE_THAN_DRAW: [Call; 2] = [Call::Volume, Call::Amended];
 }
 
 /// Times a call both ways, in so many rounds.
@@ -31,19 +34,19 @@ pub fn time(call: Call, subject: &mut Subject, rounds: usize) -> Timing {
     interleaved(rounds, proved, rust)
 }
 
-/// The proved volume by the proved drawing alone, timed in turns.
-pub fn volume_by_draw(subject: &mut Subject, rounds: usize) -> f64 {
+/// A proved call by the proved drawing alone, timed in turns.
+pub fn by_draw(call: Call, subject: &mut Subject, rounds: usize) -> f64 {
     let shared = RefCell::new(subject);
-    let [volume, draw] = [Call::Volume, Call::Draw].map(|call| {
+    let [more, draw] = [call, Call::Draw].map(|call| {
         let shared = &shared;
         move || make::<Proved>(call, &mut shared.borrow_mut())
     });
-    ratio(&in_turns(rounds, volume, draw))
+    ratio(&in_turns(rounds, more, draw))
 }
 
 /// Makes a call once. Enquiries are about one edge after another.
 pub fn make<W: Way>(call: Call, subject: &mut Subject) {
-    let Subject { survey, enquiries, point_slice, triangle_slice } = black_box(subject);
+    let Subject { survey, amended, enquiries, point_slice, triangle_slice } = black_box(subject);
     match call {
         Call::Check => _ = black_box(W::check(survey)),
         Call::Enquire => {
@@ -52,27 +55,29 @@ pub fn make<W: Way>(call: Call, subject: &mut Subject) {
         }
         Call::Draw => _ = black_box(W::draw(survey, point_slice, triangle_slice)),
         Call::Volume => _ = black_box(W::volume(survey, point_slice, triangle_slice)),
+        Call::Amended => _ = black_box(W::draw(amended, point_slice, triangle_slice)),
     }
 }
 
-/// Stops if the two ways differ in any answer: what is timed must be the same work.
+/// Stops if the two ways differ in any answer, or a drawing with amendments from one without: what is timed must be the same work.
 pub fn compare(subject: &Subject) {
-    let Subject { survey, enquiries, .. } = subject;
+    let Subject { survey, amended, enquiries, .. } = subject;
     assert_eq!(Proved::check(survey), Rust::check(survey));
     for &enquiry in enquiries {
         assert_eq!(Proved::enquire(survey, enquiry), Rust::enquire(survey, enquiry), "{enquiry:?}");
     }
-    assert_eq!(written(subject, Proved::draw), written(subject, Rust::draw));
-    assert_eq!(written(subject, Proved::volume), written(subject, Rust::volume));
+    let drawn = written(subject, |points, triangles| Rust::draw(survey, points, triangles));
+    assert_eq!(written(subject, |points, triangles| Proved::draw(survey, points, triangles)), drawn);
+    assert_eq!(written(subject, |points, triangles| Proved::draw(amended, points, triangles)), drawn);
+    assert_eq!(written(subject, |points, triangles| Rust::draw(amended, points, triangles)), drawn);
+    let reckoned = written(subject, |points, triangles| Rust::volume(survey, points, triangles));
+    assert_eq!(written(subject, |points, triangles| Proved::volume(survey, points, triangles)), reckoned);
 }
 
 /// What a call returns and leaves in the slices.
-fn written<R>(
-    subject: &Subject,
-    call: impl FnOnce(&Survey, &mut [f32], &mut [u32]) -> R,
-) -> (R, Vec<f32>, Vec<u32>) {
+fn written<R>(subject: &Subject, call: impl FnOnce(&mut [f32], &mut [u32]) -> R) -> (R, Vec<f32>, Vec<u32>) {
     let mut points = vec![0.0; subject.point_slice.len()];
     let mut triangles = vec![0; subject.triangle_slice.len()];
-    let result = call(&subject.survey, &mut points, &mut triangles);
+    let result = call(&mut points, &mut triangles);
     (result, points, triangles)
 }

@@ -1,7 +1,7 @@
 //! Times the proved calls against the Rust drawing, on surveys of several kinds and sizes, and prints two tables:
-//! the time of each call, with the proved volume by the proved drawing alone, and how the time of a leaf grows with
-//! the survey; then the highest of these ratios, and how the proved drawing of each kind grows. The exit status is 1
-//! if one grows too fast.
+//! the time of each call, with the proved volume and the proved drawing with 1,000 amendments by the proved drawing
+//! alone, and how the time of a leaf grows with the survey; then the highest of these ratios, and how the proved drawing
+//! of each kind grows. The exit status is 1 if one grows too fast.
 //!
 //!     cargo run --release -p bench [ROUNDS]
 //!
@@ -66,7 +66,7 @@ fn row(kind: Kind, splits: usize, rounds: usize) -> Row {
     let mut subject = Subject::new(surveys::sized::survey(kind, splits, SEED));
     calls::compare(&subject);
     let times = Call::ALL.map(|call| calls::time(call, &mut subject, rounds));
-    let volume_by_draw = calls::volume_by_draw(&mut subject, rounds);
+    let by_draw = Call::MORE_THAN_DRAW.map(|call| calls::by_draw(call, &mut subject, rounds));
     Row {
         kind,
         splits,
@@ -74,6 +74,6 @@ fn row(kind: Kind, splits: usize, rounds: usize) -> Row {
         points: subject.points(),
         triangles: subject.triangles(),
         times,
-        volume_by_draw,
+        by_draw,
     }
 }

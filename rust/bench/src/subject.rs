@@ -1,7 +1,12 @@
 //! A survey to time calls on, with the slices lent to drawing and the edges to enquire about.
 
+use surveys::amendments::{self, with_amendments};
 use surveys::plain::octree;
+use surveys::random::Random;
 use surveys::Survey;
+
+use crate::ways::rust;
+use crate::SEED;
 
 /// How many edges are enquired about in turn.
 const ENQUIRIES: usize = 16;
@@ -20,6 +25,8 @@ pub struct Enquiry {
 /// A survey with all that the calls on it need.
 pub struct Subject {
     pub survey: Survey,
+    /// The same survey with as many amendments as there may be: its drawing is the same.
+    pub amended: Survey,
     pub enquiries: Vec<Enquiry>,
     pub point_slice: Vec<f32>,
     pub triangle_slice: Vec<u32>,
@@ -28,10 +35,11 @@ pub struct Subject {
 impl Subject {
     /// A survey that is drawn, with slices that its drawing just fills.
     pub fn new(survey: Survey) -> Subject {
-        let drawn = drawing::draw_to_vec(&survey.cells, &survey.corners, survey.clearance);
+        let drawn = drawing::draw_to_vec(rust(&survey), survey.clearance);
         let drawing::Drawing { points, triangles } = drawn.expect("a survey that is drawn");
         Subject {
             enquiries: enquiries(&survey),
+            amended: with_amendments(&mut Random::new(SEED), &survey, amendments::MOST),
             survey,
             point_slice: vec![0.0; points.len()],
             triangle_slice: vec![0; triangles.len()],

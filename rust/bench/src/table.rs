@@ -16,23 +16,27 @@ pub struct Row {
     pub triangles: usize,
     /// The times of each call.
     pub times: [Timing; Call::ALL.len()],
-    /// The proved volume by the proved drawing alone.
-    pub volume_by_draw: f64,
+    /// Each proved call that draws and does something more, by the proved drawing alone.
+    pub by_draw: [f64; Call::MORE_THAN_DRAW.len()],
 }
 
-/// The time of each call in microseconds, proved and Rust, and their ratio; then that of the proved volume to the proved drawing.
+/// The time of each call in microseconds, proved and Rust, and their ratio; then those of proved calls to the proved drawing.
 pub fn print_times(rows: &[Row]) {
-    println!("time of a call in microseconds: proved, Rust, and proved / Rust; last, proved volume / proved draw\n");
+    println!(
+        "time of a call in microseconds: proved, Rust, and proved / Rust; last, proved calls / proved draw\n"
+    );
     print!("{:9} {:>6} {:>6} {:>6} {:>9}", "kind", "splits", "leaves", "points", "triangles");
     Call::ALL.into_iter().for_each(|call| print!(" | {:>26}", call_name(call)));
-    println!(" | volume / draw");
+    Call::MORE_THAN_DRAW.into_iter().for_each(|call| print!(" | {:>7} / draw", call_name(call)));
+    println!();
     for row in rows {
         print!("{:9} {:6} {:6}", kind_name(row.kind), row.splits, row.leaves);
         print!(" {:6} {:9}", row.points, row.triangles);
         for Timing { proved, rust, ratio } in row.times {
             print!(" | {:9.2} {:9.2} {ratio:6.2}", proved / 1e3, rust / 1e3);
         }
-        println!(" | {:13.2}", row.volume_by_draw);
+        row.by_draw.into_iter().for_each(|ratio| print!(" | {ratio:14.2}"));
+        println!();
     }
 }
 
@@ -65,13 +69,15 @@ fn print_leaf_times(of_kind: &[Row], call: Call, way: &str, time: impl Fn(&Timin
     println!();
 }
 
-/// The highest ratio of each call, and of the proved volume to the proved drawing, on large surveys and on those of all sizes.
+/// The highest ratio of each call, and of proved calls to the proved drawing, on large surveys and on those of all sizes.
 pub fn print_worst(rows: &[Row], sizes: &[usize]) {
     println!();
     for call in Call::ALL {
         print_highest(rows, sizes, call_name(call), "proved / Rust", |row| row.times[call as usize].ratio);
     }
-    print_highest(rows, sizes, "volume", "proved / proved draw", |row| row.volume_by_draw);
+    for (number, call) in Call::MORE_THAN_DRAW.into_iter().enumerate() {
+        print_highest(rows, sizes, call_name(call), "proved / proved draw", |row| row.by_draw[number]);
+    }
 }
 
 fn print_highest(rows: &[Row], sizes: &[usize], call: &str, what: &str, ratio: impl Fn(&Row) -> f64) {
@@ -117,6 +123,7 @@ pub fn call_name(call: Call) -> &'static str {
         Call::Enquire => "enquire",
         Call::Draw => "draw",
         Call::Volume => "volume",
+        Call::Amended => "amended",
     }
 }
 
@@ -124,10 +131,10 @@ pub fn call_name(call: Call) -> &'static str {
 mod tests {
     use super::*;
 
-    /// A row in which every call has the ratio, and the volume twice that by the drawing.
+    /// A row in which every call has the ratio, and twice that by the drawing.
     fn row(kind: Kind, splits: usize, ratio: f64) -> Row {
         let times = Call::ALL.map(|_| Timing { proved: ratio, rust: 1.0, ratio });
-        Row { kind, splits, leaves: 1, points: 0, triangles: 0, times, volume_by_draw: 2.0 * ratio }
+        Row { kind, splits, leaves: 1, points: 0, triangles: 0, times, by_draw: [2.0 * ratio; 2] }
     }
 
     #[test]
@@ -142,7 +149,7 @@ mod tests {
             for call in Call::ALL {
                 assert_eq!(highest(&rows, sizes, |row| row.times[call as usize].ratio), expected);
             }
-            assert_eq!(highest(&rows, sizes, |row| row.volume_by_draw), 2.0 * expected);
+            assert_eq!(highest(&rows, sizes, |row| row.by_draw[0]), 2.0 * expected);
         }
     }
 }

@@ -31,11 +31,11 @@ pub struct Proved;
 
 impl Way for Proved {
     fn check(survey: &Survey) -> u32 {
-        clearance::check(&survey.cells, &survey.corners).map_or_else(Refusal::number, |()| 0)
+        clearance::check(proved(survey)).map_or_else(Refusal::number, |()| 0)
     }
 
     fn enquire(survey: &Survey, Enquiry { axis, low, length }: Enquiry) -> Answer {
-        match clearance::enquire(&survey.cells, &survey.corners, survey.clearance, axis, low, length) {
+        match clearance::enquire(proved(survey), survey.clearance, axis, low, length) {
             Ok(clearance::Edge::Even) => Ok(None),
             Ok(clearance::Edge::Crossing { number, place, wet_end }) => {
                 Ok(Some((number, place, wet_end == clearance::End::Upper)))
@@ -45,19 +45,23 @@ impl Way for Proved {
     }
 
     fn draw(survey: &Survey, points: &mut [f32], triangles: &mut [u32]) -> Counts {
-        match clearance::draw(&survey.cells, &survey.corners, survey.clearance, points, triangles) {
+        match clearance::draw(proved(survey), survey.clearance, points, triangles) {
             Ok(counts) => [0, counts.points, counts.triangles],
             Err(refused) => refused_counts(refused),
         }
     }
 
     fn volume(survey: &Survey, points: &mut [f32], triangles: &mut [u32]) -> (Counts, i128) {
-        let Survey { cells, corners, clearance } = survey;
-        match clearance::volume(cells, corners, *clearance, REFERENCE, points, triangles) {
+        match clearance::volume(proved(survey), survey.clearance, REFERENCE, points, triangles) {
             Ok(Water { counts, sixfold }) => ([0, counts.points, counts.triangles], sixfold.into()),
             Err(refused) => (refused_counts(refused), 0),
         }
     }
+}
+
+/// The tables of a survey for the proved library.
+fn proved(Survey { cells, corners, amendments, .. }: &Survey) -> clearance::Survey<'_> {
+    clearance::Survey { cells, corners, amendments }
 }
 
 fn refused_counts(Refused { refusal, counts }: Refused) -> Counts {
@@ -69,11 +73,11 @@ pub struct Rust;
 
 impl Way for Rust {
     fn check(survey: &Survey) -> u32 {
-        drawing::check(&survey.cells, &survey.corners)
+        drawing::check(rust(survey))
     }
 
-    fn enquire(survey: &Survey, Enquiry { axis, low: [x, y, z], length }: Enquiry) -> Answer {
-        match drawing::enquire(&survey.cells, &survey.corners, survey.clearance, axis, x, y, z, length)? {
+    fn enquire(survey: &Survey, Enquiry { axis, low, length }: Enquiry) -> Answer {
+        match drawing::enquire(rust(survey), survey.clearance, axis, low, length)? {
             drawing::Edge::Even => Ok(None),
             drawing::Edge::Crossing { number, place, wet_end } => {
                 Ok(Some((number, place, wet_end == drawing::End::Upper)))
@@ -82,14 +86,18 @@ impl Way for Rust {
     }
 
     fn draw(survey: &Survey, points: &mut [f32], triangles: &mut [u32]) -> Counts {
-        drawn_counts(drawing::draw(&survey.cells, &survey.corners, survey.clearance, points, triangles))
+        drawn_counts(drawing::draw(rust(survey), survey.clearance, points, triangles))
     }
 
     fn volume(survey: &Survey, points: &mut [f32], triangles: &mut [u32]) -> (Counts, i128) {
-        let Survey { cells, corners, clearance } = survey;
-        let water = drawing::volume(cells, corners, *clearance, REFERENCE, points, triangles);
+        let water = drawing::volume(rust(survey), survey.clearance, REFERENCE, points, triangles);
         (drawn_counts(water.drawn), water.sixfold)
     }
+}
+
+/// The tables of a survey for the Rust drawing.
+pub fn rust(Survey { cells, corners, amendments, .. }: &Survey) -> drawing::Survey<'_> {
+    drawing::Survey { cells, corners, amendments }
 }
 
 fn drawn_counts(drawing::Drawn { number, points, triangles }: drawing::Drawn) -> Counts {

@@ -13,8 +13,8 @@ pub const MOST: usize = 1_000;
 /// Days that differ in one byte or the other, in both, or in the highest bit alone.
 const DAYS: [u16; 8] = [0, 1, 255, 256, 257, 32_767, 32_768, 65_535];
 
-/// Gives a survey days, and amendments to every second one: to most of these about a dozen, to some many, to a few as many
-/// as may be.
+/// Gives a survey without amendments days, and to every second one amendments: to most of these about a dozen, to some many,
+/// to a few as many as may be. They are all at one corner, at a few in a row, or anywhere.
 pub(crate) fn resounded(random: &mut Random, survey: &Survey) -> Survey {
     let count = match random.below(16) {
         0..8 => 0,
@@ -22,20 +22,32 @@ pub(crate) fn resounded(random: &mut Random, survey: &Survey) -> Survey {
         13 | 14 => 1 + random.below(MOST),
         _ => MOST,
     };
-    with_amendments(random, survey, count)
+    let corners = survey.corners.len() / Record::BYTES;
+    let (first, reach) = (random.below(corners), random.pick(&[1, 4, 16, corners]));
+    amended_at(random, survey, count, |random| (first + random.below(reach)) % corners)
 }
 
-/// Gives a survey without amendments days, and so many amendments, at most [`MOST`].
+/// Gives a survey without amendments days, and so many amendments, at most [`MOST`], anywhere.
 pub fn with_amendments(random: &mut Random, survey: &Survey, count: usize) -> Survey {
+    let corners = survey.corners.len() / Record::BYTES;
+    amended_at(random, survey, count, |random| random.below(corners))
+}
+
+/// Each amendment is at the corner that `corner` gives. One that comes into force takes the sounding of the record that was
+/// in force, which is left with another.
+fn amended_at(
+    random: &mut Random,
+    survey: &Survey,
+    count: usize,
+    corner: impl Fn(&mut Random) -> usize,
+) -> Survey {
     let [table_days, amendment_days] = random_days(random);
     let dated = |record| Record { day: random.pick(&table_days), ..record };
     let mut corners: Vec<Record> = records(&survey.corners).map(dated).collect();
-    // All at one corner, at a few in a row, or anywhere.
-    let (first, reach) = (random.below(corners.len()), random.pick(&[1, 4, 16, corners.len()]));
     let mut amendments: Vec<Record> = Vec::new();
     let mut holding: Vec<Option<usize>> = vec![None; corners.len()];
     for number in 0..count {
-        let corner = (first + random.below(reach)) % corners.len();
+        let corner = corner(random);
         let (place, day) = (corners[corner].place, random.pick(&amendment_days));
         let mut sounding = overruled(random, survey.clearance);
         let held = holding[corner].map_or(&mut corners[corner], |holder| &mut amendments[holder]);

@@ -76,8 +76,8 @@ fn a_smaller_clearance_and_dredging_make_more_water() {
         line.trim().parse().expect("a number")
     };
     assert!(volume("lock-chamber") > volume("hull-room"));
-    assert!(volume("weir-pool") > volume("deep-water"));
-    assert!(volume("dredged") > volume("weir-pool"));
+    let weir_pool = volume("weir-pool");
+    assert!(volume("dredged") > weir_pool && weir_pool > volume("deep-water"));
 }
 
 #[test]
