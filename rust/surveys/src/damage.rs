@@ -4,6 +4,7 @@
 use std::collections::BTreeSet;
 use std::iter::repeat_with;
 
+use crate::amendments;
 use crate::generate;
 use crate::plain::{in_force, records};
 use crate::random::Random;
@@ -15,7 +16,7 @@ use crate::Survey;
 const CELL_RECORD: usize = 4;
 const MOST_CELL_BYTES: usize = 8_196;
 const MOST_CORNER_BYTES: usize = 58_464;
-const MOST_AMENDMENT_BYTES: usize = 12_000;
+const MOST_AMENDMENT_BYTES: usize = amendments::MOST * Record::BYTES;
 
 /// A survey that is refused.
 pub struct Damaged {

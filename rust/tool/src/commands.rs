@@ -165,8 +165,8 @@ const COMMANDS: [Command; 10] = [
         arguments: "OLD NEW",
         summary: "give a corner table of 10-byte records days",
         help: "Reads the corner table in the file OLD, with records of 10 bytes as they were before amendments, and writes it into\n\
-               the new file NEW with records of 12 bytes, all of day 0. OLD stays as it is, and no file is written over:\n\
-               clearance convert pool/corners pool/corners-12 && mv pool/corners-12 pool/corners\n\
+               the new file NEW with records of 12 bytes, all of day 0. OLD stays as it is, and no file is written over:\n\n\
+               \x20   clearance convert pool/corners pool/corners-12 && mv pool/corners-12 pool/corners\n\n\
                Nothing is written if OLD is empty, not whole records of 10 bytes or over 48720 bytes, if its records don't rise,\n\
                as those of a corner table do, or if it has records of 12 bytes already: that is an error.",
         takes: || vec![path(OLD), path(NEW)],
