@@ -55,9 +55,9 @@
  *
  * No bytes in the tables and no clearance, not a number among them, can make a call read or write outside what it was lent, or run on without end.
  *
- * A call allocates nothing and keeps nothing, so any number of threads may call at once. It needs less than 512 KiB of stack without amendments, and less
- * than 576 KiB with them. Arithmetic is that of the thread: it must be as a C program starts, rounding to nearest and with subnormal numbers kept, or what
- * is drawn may differ. (GCC's -ffast-math, given when a program is linked, makes it start otherwise.)
+ * A call allocates nothing and keeps nothing, so any number of threads may call at once. It needs less than 576 KiB of stack. Arithmetic is that of the
+ * thread: it must be as a C program starts, rounding to nearest and with subnormal numbers kept, or what is drawn may differ. (GCC's -ffast-math, given
+ * when a program is linked, makes it start otherwise.)
  *
  * REFUSALS
  *

@@ -6,8 +6,7 @@
 //! for every input. What can't be drawn is refused by one of the fifteen [refusals](Refusal). What is drawn is closed: between any two points triangles
 //! run one way as often as the other. So the space inside is one number, wherever it is reckoned from.
 //!
-//! Nothing is kept between calls and nothing is allocated inside them, so any number of threads may call. A call needs less than 512 KiB of stack, and
-//! with amendments less than 576 KiB.
+//! Nothing is kept between calls and nothing is allocated inside them, so any number of threads may call. A call needs less than 576 KiB of stack.
 //!
 //! # The tables
 //!

@@ -7,25 +7,22 @@ use surveys::{plain, Survey};
 
 use crate::tables::proved;
 
-/// The header's promise: a call without amendments needs less stack than this, in bytes.
-const STACK: usize = 512 * 1_024;
-
-/// The same of a call with amendments.
-const STACK_WITH_AMENDMENTS: usize = 576 * 1_024;
+/// The header's promise: a call needs less stack than this, in bytes.
+const STACK: usize = 576 * 1_024;
 
 /// As many splits as a cell table holds.
 const MOST_SPLITS: usize = 256;
 
-/// Runs in a thread with so much stack, below which an inaccessible page lies. The compiled calls touch every page of their stack in order, so one
+/// Runs in a thread with that much stack, below which an inaccessible page lies. The compiled calls touch every page of their stack in order, so one
 /// that needs more meets this page, and the process ends.
-fn on_stack(size: usize, calls: impl FnOnce() + Send + 'static) {
-    let thread = std::thread::Builder::new().stack_size(size).spawn(calls);
+fn on_small_stack(calls: impl FnOnce() + Send + 'static) {
+    let thread = std::thread::Builder::new().stack_size(STACK).spawn(calls);
     thread.expect("a thread").join().expect("returned");
 }
 
 /// Uses more stack than such a thread has left when it starts.
 pub fn use_more() {
-    on_stack(STACK, || _ = std::hint::black_box([1u8; STACK]));
+    on_small_stack(|| _ = std::hint::black_box([1u8; STACK]));
 }
 
 /// Surveys of 256 splits: every kind, with a long loop and cells of depth 10 among them; and of many random ones that with the most triangles.
@@ -50,10 +47,10 @@ fn make_calls(survey: &Survey) {
 }
 
 #[test]
-fn the_largest_surveys_on_a_stack_of_512_kib() {
+fn the_largest_surveys_on_a_stack_of_576_kib() {
     let surveys = largest();
     assert!(surveys.iter().all(|survey| survey.cells.len() == 4 * (1 + 8 * MOST_SPLITS)));
-    on_stack(STACK, move || surveys.iter().for_each(make_calls));
+    on_small_stack(move || surveys.iter().for_each(make_calls));
 }
 
 #[test]
@@ -61,5 +58,5 @@ fn the_largest_surveys_with_1_000_amendments_on_a_stack_of_576_kib() {
     let amended = |survey| with_amendments(&mut Random::new(1), survey, amendments::MOST);
     let surveys: Vec<Survey> = largest().iter().map(amended).collect();
     assert!(surveys.iter().all(|survey| survey.amendments.len() == 12_000));
-    on_stack(STACK_WITH_AMENDMENTS, move || surveys.iter().for_each(make_calls));
+    on_small_stack(move || surveys.iter().for_each(make_calls));
 }
