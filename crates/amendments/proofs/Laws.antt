@@ -24,9 +24,11 @@ use Rattle.rules.specs.Outputs.{surveyOf, levelOf, refused, even, crossing, enq
 use Rattle.rules.specs.Water.{beyondBox, volumeChecks, volume}
 use Rattle.rules.specs.Resounding.{recordsOf, placeIn, dayIn, inForce, amended, badAmendments, strayAmendment, amendmentChecks, asAmended}
 use Rattle.rules.specs.Resounding.{checkAmended, enquiryAmended, undrawn, drawAmended, unreckoned, volumeAmended}
-use Rattle.rules.specs.Resounding.{Holds, HighestHolds, numberIn, checkOrder, drawingOrder, InOrder, AsWithout, EmptyChangesNothing, OlderChangesNothing}
+use Rattle.rules.specs.Resounding.{Holds, HighestHolds, CornersInForce, numberIn, checkOrder, drawingOrder, InOrder, ChecksInOrder}
+use Rattle.rules.specs.Resounding.{AsWithout, EmptyChangesNothing, OlderChangesNothing}
 use Rattle.rules.specs.declared.End.{End}
 use Rattle.octree.proofs.Accepted.{numbered, first-append}
+use Rattle.amendments.proofs.InForce.{amended-record}
 use Rattle.amendments.proofs.Calls.{tables-numbered, tables-same, amended-kept, amended-none, tables-pass, lawful-checks, none-checks}
 use Rattle.amendments.proofs.Calls.{refused-by-amendments, refused-by-tables, called, survey-refused, enquiry-refused, draw-refused, volume-refused}
 
@@ -95,6 +97,11 @@ joined (a ∷ rs) cs r held = go (same (placeIn r) (placeIn a)) (lower a r) refl
 pub highest-holds : HighestHolds
 unfolding HighestHolds
 highest-holds r amendments = joined amendments (r ∷ []) r (record { earlier = []; later = []; all-are = refl; none-higher = tt; all-lower = tt })
+
+-- the corners of the table made are the corners in force
+pub corners-in-force : CornersInForce
+unfolding CornersInForce
+corners-in-force = amended-record
 
 -- ---- no amendments, or older ones alone, change nothing
 
@@ -210,7 +217,7 @@ module _ (tc tk ta : List ℕ) where
       (numberOf s e) (spotOn (cornersOf t) clearance e) (wetEnd (wetAt (cornersOf t) clearance) (edge a p l))
 
   -- those are 7; 7, 8 and 11; 7, 8, 12 and the slices'; and these with 13 before the slices'
-  pub in-order : InOrder tc tk ta
+  in-order : InOrder tc tk ta
   unfolding checkAmended enquiryAmended drawAmended volumeAmended checkOrder drawingOrder amendmentChecks tableChecks surveyRefusal
       surveyChecks checks drawingChecks draw volumeChecks volume
   in-order =
@@ -230,3 +237,7 @@ module _ (tc tk ta : List ℕ) where
             ordered (λ w. w .result .number) (λ n. unreckoned n ps ts) (λ t. volume tc t clearance reference ps ts)
             (before-slices clearance ++ (13, beyondBox reference) ∷ sliceChecks tc table clearance ps ts) (λ n. refl) refl;
       }
+
+pub checks-in-order : ChecksInOrder
+unfolding ChecksInOrder
+checks-in-order = in-order

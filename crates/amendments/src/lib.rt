@@ -19,7 +19,7 @@ fn bad_table(amendments: &[u8]) -> bool
     if amendments.len() % records::SIZE != 0 {
         return true;
     }
-    amendments.len() > 12000
+    amendments.len() > records::AMENDMENT_LIMIT
 }
 
 // Copies `n` bytes of one table, from `start` on, over those of another, from `at` on.

@@ -171,7 +171,7 @@ fn check_amended(cells: &[u8], corners: &[u8], amendments: &[u8]) -> u32
     requires { ⌜ firstOf (tableChecks (now cells) (now corners)) ≡ 0 ⌝ }
     ensures { λ r. ⌜ r ≡ checkAmended (now (cells .entry)) (now (corners .entry)) (now (amendments .entry)) ⌝ }
 {
-    let mut table = [0u8; 58464];
+    let mut table = [0u8; records::LIMIT];
     let number = amendments::refusal(cells, corners, amendments, &mut table);
     if number != 0 {
         return number;

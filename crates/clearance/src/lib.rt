@@ -110,7 +110,7 @@ pub extern "C" fn clearance_check(cells: &[u8], corners: &[u8], amendments: &[u8
     checks::check(cells, corners, amendments)
 }
 
-// The edge enquiry.
+// The edge enquiry of a survey as amended.
 #[no_mangle]
 pub extern "C" fn clearance_enquire(
     cells: &[u8],
@@ -129,7 +129,7 @@ pub extern "C" fn clearance_enquire(
     reply_of(enquiry::enquire(cells, corners, amendments, clearance, edge))
 }
 
-// Draws the surface of a survey at a clearance into the lent slices.
+// Draws the surface of a survey, as amended, at a clearance into the lent slices.
 #[no_mangle]
 pub extern "C" fn clearance_draw(
     cells: &[u8],

@@ -7,9 +7,6 @@ ghost use lib.ListN.{length};
 ghost use Rattle.text.specs.Writing.{Wrote};
 ghost use Rattle.draw.specs.Printed.{clearanceOf, printed};
 
-// The system's number for a file that is not there (ENOENT).
-const MISSING: i32 = 2;
-
 // The clearance in the bytes of its file: four of binary32. Another length gives no number, which check 8 refuses.
 fn clearance_of(bytes: &[u8]) -> f32
     ensures { λ r. ⌜ r ≡ clearanceOf (now (bytes .entry)) ⌝ }
@@ -55,15 +52,15 @@ fn load(path: &[u8], buf: &mut [u8]) -> usize
     0
 }
 
-// The file of the amendments; nothing where there is none. One that is there and can't be read counts as a single byte, which is no record: to draw without
-// amendments that there are would be wrong, so check 14 refuses.
+// The file of the amendments; nothing where there is none. One that is there and can't be read to its end counts as a single byte, which is no record: to draw
+// without amendments that there are would be wrong, so check 14 refuses.
 fn load_amendments(buf: &mut [u8]) -> usize
     requires { ⌜ 1 ≤ length (now buf) ⌝ }
     ensures { λ r. ⌜ r ≤ length (now (buf .exit)) ⌝ }
 {
     let fd = os::open_read(b"amendments");
     if fd < 0 {
-        if os::errno() == MISSING {
+        if os::errno() == libc::ENOENT {
             return 0;
         }
         return 1;
@@ -72,7 +69,7 @@ fn load_amendments(buf: &mut [u8]) -> usize
     let mut past = [0u8; 1];
     let more = libc::read(fd, &mut past);
     libc::close(fd);
-    if more < 0 {
+    if more != 0 {
         return 1;
     }
     if n <= buf.len() {

@@ -185,7 +185,7 @@ fn draw_amended(
     ensures { λ r. ⌜ Draws (drawAmended (now (cells .entry)) (now (corners .entry)) (now (amendments .entry)) clearance
         (now (points .entry)) (now (triangles .entry))) r (now (points .exit)) (now (triangles .exit)) ⌝ }
 {
-    let mut table = [0u8; 58464];
+    let mut table = [0u8; records::LIMIT];
     let number = amendments::refusal(cells, corners, amendments, &mut table);
     if number != 0 {
         return result(number, 0, 0);

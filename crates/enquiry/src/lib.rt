@@ -80,7 +80,7 @@ fn enquire_amended(
     ensures { λ r. ⌜ answered r ≡ enquiryAmended (now (cells .entry)) (now (corners .entry)) (now (amendments .entry)) clearance (edge .axis) (lowerEnd edge)
         (edge .length) ⌝ }
 {
-    let mut table = [0u8; 58464];
+    let mut table = [0u8; records::LIMIT];
     let number = amendments::refusal(cells, corners, amendments, &mut table);
     if number != 0 {
         return Answer::Refused(number);

@@ -13,10 +13,12 @@ ghost use Rattle.rules.specs.Outputs.{inRange, rising};
 ghost use Rattle.records.specs.Keys.{keyOf, placesOf};
 use rules::Corner;
 
-// The size of a corner record in bytes, and the longest corner table.
+// The size of a corner record in bytes, the longest corner table, and the longest amendment table.
 pub const SIZE: usize = 12;
 
 pub const LIMIT: usize = 58464;
+
+pub const AMENDMENT_LIMIT: usize = 12000;
 
 // A byte as a wider number, with its bound.
 fn wide(x: u8) -> u16

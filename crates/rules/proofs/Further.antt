@@ -96,10 +96,10 @@ refusals =
     refused 1 (withCells [] leaf) oneWet ∷
     refused 1 (withCells (replicate 5 0) leaf) oneWet ∷
     refused 1 (withCells (replicate 8200 0) leaf) oneWet ∷
-    -- 2: empty, not whole records, 48,730 bytes
+    -- 2: empty, not whole records, 58,476 bytes
     refusedTable 2 leaf [] ∷
     refusedTable 2 leaf (cornerTable (leaf .corners) oneWet ++ 0 ∷ []) ∷
-    refusedTable 2 leaf (replicate 48730 0) ∷
+    refusedTable 2 leaf (replicate 58476 0) ∷
     -- 3: a record too many, a record too few, a first entry that is not 1, an entry that is its own record number
     refused 3 (withCells (cellTable (leaves 2)) leaf) oneWet ∷
     refused 3 (withCells (cellTable (1 ∷ leaves 7)) split) oneWet ∷

@@ -1,13 +1,13 @@
 -- Examples of document 02, request 6: one leaf whose records are of day 5, its lowest corner resounded.
 -- Assumes nothing.
 use Prim.Native.Nat.{ℕ}
-use mathlib.Core.Bool.{Bool, _&&_}
+use mathlib.Core.Bool.{Bool, not, _&&_}
 use mathlib.Core.List.{List, [], _∷_, _++_}
 use lib.Dec.{eqb, T}
-use lib.ListN.{take}
+use lib.ListN.{take, replicate}
 use Rattle.base.specs.Lists.{all, collect, little, bytes}
 use Rattle.base.specs.Grid.{origin}
-use Rattle.rules.specs.Resounding.{dayIn, amended, checkAmended}
+use Rattle.rules.specs.Resounding.{dayIn, amended, badAmendments, checkAmended}
 use Rattle.rules.proofs.Surveys.{place, Soundings, at, one, minusOne, two, three, notANumber, resounded, leaf}
 
 -- amendments to a corner table, and what comes of them: what the check of the survey gives, and the day and the sounding's bits in force at the lowest corner
@@ -50,6 +50,7 @@ resoundings =
     resounding (resounded (place 1024 0 0) three 9) 0 5 minusOne ∷
     -- not whole records; at no corner, even if too old to hold; in this order
     resounding (take 11 (again one 6)) 14 5 minusOne ∷
+    mended (take 11 (again one 6)) 14 5 notANumber ∷
     resounding (stray 6) 15 5 minusOne ∷
     resounding (stray 0) 15 5 minusOne ∷
     resounding (again one 6 ++ stray 0) 15 6 one ∷
@@ -73,3 +74,7 @@ right r =
 pub resoundings-right : T (all right resoundings)
 unfolding right resoundings
 resoundings-right = tt
+
+-- 1,000 amendments may be lent, and no more
+pub most-amendments : T (not (badAmendments (replicate 12000 0)) && badAmendments (replicate 12012 0))
+most-amendments = tt

@@ -1,5 +1,6 @@
 -- Document 01, "Outputs and refusals": the checks in their order, and what each call gives for every input. Of document 02, the enquiry's answer has the
--- wet end (request 1), and drawing has check 12 (request 3).
+-- wet end (request 1), drawing has check 12 (request 3), and check 2 is of 12-byte records (request 6). All is without amendments; with them, see
+-- Resounding.antt.
 use Prim.Native.Nat.{ℕ, suc, _+_, _*_, _%_, _^_}
 use mathlib.Core.Bool.{Bool, true, false, not, _&&_, _||_, cond}
 use mathlib.Core.List.{List, [], _∷_, _++_, map}
@@ -86,7 +87,7 @@ unfoldable pub surveyChecks : List ℕ → List ℕ → List (ℕ × Bool)
 unfolding tableChecks cornersOf inRange
 surveyChecks tc tk = tableChecks tc tk ++ soundingCheck tk ∷ []
 
--- a check of the survey by itself gives 0 or 1 to 7
+-- without amendments a check of the survey by itself gives 0 or 1 to 7
 unfoldable pub surveyRefusal : List ℕ → List ℕ → ℕ
 unfolding surveyChecks
 surveyRefusal tc tk = firstOf (surveyChecks tc tk)

@@ -1,6 +1,6 @@
 -- Document 02, request 6, "Resounding a few corners": an amendment table lent beside the corner table, the record in force at each corner, checks 14 and 15,
 -- and each call of the survey so amended. That records have 12 bytes is in Survey.antt.
-use Prim.Native.Nat.{ℕ, _%_}
+use Prim.Native.Nat.{ℕ, _%_, _<_}
 use mathlib.Core.Path.{_≡_}
 use mathlib.Core.Bool.{Bool, not, _&&_, _||_, cond}
 use mathlib.Core.List.{List, [], _∷_, _++_, map}
@@ -119,12 +119,18 @@ unfoldable pub HighestHolds : Type 0
 unfolding placeIn inForce
 HighestHolds = (r : List ℕ) (amendments : List (List ℕ)) → Holds (r ∷ keep (λ a. same (placeIn r) (placeIn a)) amendments) (inForce r amendments)
 
--- The checks of each call in their order: 1 to 6 of the tables as lent, 14, 15, and all others of the table as amended. "Refusal 7 looks only at soundings in
--- force."
+-- record k of the corner table as amended is the one in force at corner k
+unfoldable pub CornersInForce : Type 0
+unfolding amended inForce
+CornersInForce = (tk ta : List ℕ) (k : ℕ) → k < recordCount tk → recordBytes (amended tk ta) k ≡ inForce (recordBytes tk k) (recordsOf ta)
+
+-- The checks of the survey by itself in their order: 1 to 6 of the tables as lent, 14, 15, and 7 of the table as amended: "refusal 7 looks only at soundings in
+-- force".
 unfoldable pub checkOrder : List ℕ → List ℕ → List ℕ → List (ℕ × Bool)
 unfolding amendmentChecks amended
 checkOrder tc tk ta = amendmentChecks tc tk ta ++ soundingCheck (amended tk ta) ∷ []
 
+-- those of drawing and of the volume, up to 12; 13 and those of the slices follow
 unfoldable pub drawingOrder : List ℕ → List ℕ → List ℕ → Float → List (ℕ × Bool)
 unfolding checkOrder inRange openAtBox amended
 drawingOrder tc tk ta clearance = checkOrder tc tk ta ++ (8, not (inRange clearance)) ∷ (12, openAtBox (amended tk ta) clearance) ∷ []
@@ -135,6 +141,7 @@ numberIn (refused n) = n
 numberIn even = 0
 numberIn (crossing n place end) = 0
 
+-- each call gives the first of its checks that applies
 pub record InOrder (tc tk ta : List ℕ) : Type 0 where
   pub check : checkAmended tc tk ta ≡ firstOf (checkOrder tc tk ta)
   pub answer : (clearance : Float) (axis : ℕ) (p : Place) (size : ℕ) → numberIn (enquiryAmended tc tk ta clearance axis p size)
@@ -144,6 +151,9 @@ pub record InOrder (tc tk ta : List ℕ) : Type 0 where
   pub reckoning : (clearance : Float) (reference : Place) (ps : List Float) (ts : List ℕ)
       → volumeAmended tc tk ta clearance reference ps ts .result .number
       ≡ firstOf (drawingOrder tc tk ta clearance ++ (13, beyondBox reference) ∷ sliceChecks tc (amended tk ta) clearance ps ts)
+
+unfoldable pub ChecksInOrder : Type 0
+ChecksInOrder = (tc tk ta : List ℕ) → InOrder tc tk ta
 
 -- ---- what follows besides
 

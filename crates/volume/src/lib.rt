@@ -129,7 +129,7 @@ fn reckon_amended(
     ensures { λ r. ⌜ Sound (now (cells .entry)) (amended (now (corners .entry)) (now (amendments .entry))) (asked .clearance) r
         (now (points .exit)) (now (triangles .exit)) ⌝ }
 {
-    let mut table = [0u8; 58464];
+    let mut table = [0u8; records::LIMIT];
     let number = amendments::refusal(cells, corners, amendments, &mut table);
     if number != 0 {
         return refused(number);
