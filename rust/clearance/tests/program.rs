@@ -38,8 +38,8 @@ fn printed_in(program: &Path, directory: &Path) -> String {
 /// The program's files, by name; a missing one is `None`.
 type Files<'a> = [(&'static str, Option<&'a [u8]>); 4];
 
-/// What the program prints where these files stand.
-fn printed(program: &Path, files: Files) -> String {
+/// What the program prints where these files stand, in a directory that `prepare` may change.
+fn printed_after(program: &Path, files: Files, prepare: impl FnOnce(&Path)) -> String {
     let directory = std::env::temp_dir().join(format!("clearance-{}", std::process::id()));
     std::fs::create_dir_all(&directory).expect("a directory");
     for (name, bytes) in files {
@@ -49,9 +49,15 @@ fn printed(program: &Path, files: Files) -> String {
             None => drop(std::fs::remove_file(path)),
         }
     }
+    prepare(&directory);
     let text = printed_in(program, &directory);
     std::fs::remove_dir_all(&directory).expect("the directory can be removed");
     text
+}
+
+/// What the program prints where these files stand.
+fn printed(program: &Path, files: Files) -> String {
+    printed_after(program, files, |_| {})
 }
 
 /// The files of a survey, with this clearance.
@@ -102,6 +108,10 @@ fn assert_files_judged(program: &Path, twin: &Survey) {
     assert_eq!(missing("corners"), "refused 2\n");
     assert_eq!(missing("clearance"), "refused 8\n");
     assert_eq!(missing("amendments"), printed(program, whole));
+    // A directory is there and can't be read.
+    let unreadable =
+        |directory: &Path| std::fs::create_dir(directory.join("amendments")).expect("a directory");
+    assert_eq!(printed_after(program, without(whole, "amendments"), unreadable), "refused 14\n");
     assert_eq!(printed(program, whole.map(|(name, _)| (name, None))), "refused 1\n");
     assert_eq!(printed(program, files(twin, Some(&zero[..3]))), "refused 8\n");
     let too_many_cells = Survey { cells: vec![0; 8_200], ..twin.clone() };

@@ -168,7 +168,7 @@ const COMMANDS: [Command; 10] = [
                the new file NEW with records of 12 bytes, all of day 0. OLD stays as it is, and no file is written over:\n\n\
                \x20   clearance convert pool/corners pool/corners-12 && mv pool/corners-12 pool/corners\n\n\
                Nothing is written if OLD is empty, not whole records of 10 bytes or over 48720 bytes, if its records don't rise,\n\
-               as those of a corner table do, or if it has records of 12 bytes already: that is an error.",
+               as those of a corner table do, if it has records of 12 bytes already, or if it could be read either way: that is an error.",
         takes: || vec![path(OLD), path(NEW)],
         run: convert,
     },
