@@ -67,5 +67,5 @@ module _ (tc tk : List â„•) (clearance : Float) (ok : accepted tc tk clearance â
   few-records = let h = cells-few tc tk unrefused in omega arith
 
   -- the table of slots before any edge is noted
-  pub levels-fresh : Levels tk [] (replicate 43848 11)
+  pub levels-fresh : Levels tk [] (replicate 43848 0x0b0b)
   levels-fresh = none-noted tk 43848 refl (let h = few-corners in omega arith)

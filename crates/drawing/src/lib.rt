@@ -100,8 +100,7 @@ pub fn draw_drawable(
     ensures { λ r. ⌜ Draws (draw (now (cells .entry)) (now (corners .entry)) clearance (now (points .entry)) (now (triangles .entry))) r
         (now (points .exit)) (now (triangles .exit)) ⌝ }
 {
-    // 11 everywhere: no edge starts at any slot yet.
-    let mut slots = [11u16; 43848];
+    let mut slots = [edges::table::EMPTY; 43848];
     let mut carriers = [0u16; 14616];
     let mut twins = [0u16; 14616];
     let n = fill_tables(

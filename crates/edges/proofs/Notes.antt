@@ -158,13 +158,13 @@ module _ (tk : List ℕ) (b : Bytes tk) (up : rising (placesOf tk) ≡ true) (fe
 pub levels-same : (tk : List ℕ) (es fs : List CellEdge) (slots : List ℕ) → es ≡ fs → Levels tk es slots → Levels tk fs slots
 levels-same tk es fs slots e v = subst (λ gs. Levels tk gs slots) e v
 
--- a table of 11 everywhere: no edge yet
-pub none-noted : (tk : List ℕ) (w : ℕ) → w ≡ 43848 → recordCount tk ≤ 4872 → Levels tk [] (replicate w 11)
+-- a table of `table::EMPTY` everywhere: no edge yet
+pub none-noted : (tk : List ℕ) (w : ℕ) → w ≡ 43848 → recordCount tk ≤ 4872 → Levels tk [] (replicate w 0x0b0b)
 unfolding lowestIn highestIn lowestAt highestAt
 none-noted tk w e few = record {
-  size = length-replicate w 11 ∙ e;
-  low = λ n k g h. ap (λ v. v % 16) (getD-replicate w (3 * (4872 * n + k)) 11 0 (omega arith));
-  high = λ n k g h. ap (λ v. v / 16 % 16) (getD-replicate w (3 * (4872 * n + k)) 11 0 (omega arith));
+  size = length-replicate w 0x0b0b ∙ e;
+  low = λ n k g h. ap (λ v. v % 16) (getD-replicate w (3 * (4872 * n + k)) 0x0b0b 0 (omega arith));
+  high = λ n k g h. ap (λ v. v / 16 % 16) (getD-replicate w (3 * (4872 * n + k)) 0x0b0b 0 (omega arith));
   far = λ n k g h o. absurd (omega arith);
 }
 

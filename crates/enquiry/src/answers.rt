@@ -108,8 +108,7 @@ pub fn enquire_accepted(
     ensures { λ r. ⌜ ((p : Place) → Short p → key ≡ keyOf p →
         answered r ≡ edgeAnswer (now (cells .entry)) (now (corners .entry)) clearance (axisOf axis) p level) ⌝ }
 {
-    // 11 everywhere: no edge starts at any slot yet.
-    let mut slots = [11u16; 43848];
+    let mut slots = [edges::table::EMPTY; 43848];
     let mut wets = [0u8; 4872];
     edges::fill_levels(cells, corners, octants, laid, &mut slots);
     edges::fill_wets(corners, clearance, &mut wets);

@@ -24,23 +24,23 @@ size-of-requires c κs = search needs
 
 loop-holds : tie.Need-loop-holds Inv-loop μ-loop
 loop-holds c =
-    let s = c .before .before .before in
+    let s = c .before .before .before .before in
     (omega arith, s .pre .1 .0 .1, written-none (λ j. recordAt (s .args .corners .now) (s .args .key + octantKey j (c .size-of .result))) _ _)
 
 octant-key-requires : tie.Need-octant-key-requires Inv-loop μ-loop
-octant-key-requires c κs = (omega arith, omega (arith, size-fits (c .before .before .before .before .before .args .level) (omega arith)))
+octant-key-requires c κs = (omega arith, omega (arith, size-fits (c .before .before .before .before .before .before .args .level) (omega arith)))
 
 add-find : tie.Need-add-find Inv-loop μ-loop
 add-find c =
     let z = c .before .before .before in
-    omega (arith, octant-key-le (c .before .before .loop .i) (z .size-of .result) (omega arith) (omega (arith, size-fits (z .before .before .before .args .level) (omega arith))))
+    omega (arith, octant-key-le (c .before .before .loop .i) (z .size-of .result) (omega arith) (omega (arith, size-fits (z .before .before .before .before .args .level) (omega arith))))
 
 find-requires : tie.Need-find-requires Inv-loop μ-loop
-find-requires c κs = c .before .before .before .before .before .before .pre .0
+find-requires c κs = let s = c .before .before .before .before .before .before .before in (s .pre .0, s .pre .1 .1 .1)
 
 cast-octants : tie.Need-cast-octants Inv-loop μ-loop
 cast-octants c =
-    let s = c .before .before .before .before .before .before .before in
+    let s = c .before .before .before .before .before .before .before .before in
     let le = record-at-le (s .args .corners .now) (s .args .key + c .before .octant-key .result) in
     record { fits = omega (arith, c .find .ensures, le) }
 
@@ -64,7 +64,7 @@ loop-less c = search needs
 
 loop-again : tie.Need-loop-again Inv-loop μ-loop
 loop-again c =
-    let s = c .before .before .before .before .before .before .before in
+    let s = c .before .before .before .before .before .before .before .before in
     let l = c .before .before .before in
     let at = 8 * s .args .n + l .loop .i in
     let f : ℕ → ℕ = λ j. recordAt (s .args .corners .now) (s .args .key + octantKey j (l .before .size-of .result)) in
@@ -80,7 +80,7 @@ same-length c = search needs
 returns : tie.Need-returns Inv-loop μ-loop
 returns c =
     let l = c .before in
-    let s = l .before .before .before .before in
+    let s = l .before .before .before .before .before in
     let write : ℕ → ℕ → _ = λ m z. writtenAt (λ j. recordAt (s .args .corners .now) (s .args .key + octantKey j z)) (8 * s .args .n) m (s .args .octants .now) in
     let end : l .loop .i ≡ 8 = omega arith in
     l .loop .inv .2 ∙ ap (λ m. write m (l .before .size-of .result)) end ∙ ap (write 8) (l .before .size-of .ensures)

@@ -17,10 +17,10 @@ abbrev μ-loop : tie.MeasureT-loop
 μ-loop corners hints laid cells octants₀ n₀ octants n = cells - n
 
 abbrev start : tie.At-loop Inv-loop μ-loop → tie.Start Inv-loop μ-loop
-start l = l .before .before .before .before
+start l = l .before .before .before .before .before
 
 loop-holds : tie.Need-loop-holds Inv-loop μ-loop
-loop-holds c = (omega arith, record { room = c .before .before .before .pre .1 .0 .1; number = λ n i h. absurd (omega arith) })
+loop-holds c = (omega arith, record { room = c .before .before .before .before .pre .1 .0 .1; number = λ n i h. absurd (omega arith) })
 
 key-in-requires : tie.Need-key-in-requires Inv-loop μ-loop
 key-in-requires c κs = search needs
@@ -34,11 +34,14 @@ fill-cell-requires c κs =
     let key = level .before in
     let l = key .before .before in
     let s = start l in
-    let low = s .pre .1 .1 .1 (l .loop .n) (omega arith) in (
+    let low = s .pre .1 .1 .1 .0 (l .loop .n) (omega arith) in (
       s .pre .0,
       (
         (s .pre .1 .0 .0, l .loop .inv .1 .room),
-        (omega (arith, s .pre .1 .1 .0), omega (arith, key .key-in .ensures .1), omega (arith, level .level-in .ensures, low)),
+        (
+          (omega (arith, s .pre .1 .1 .0), omega (arith, key .key-in .ensures .1), omega (arith, level .level-in .ensures, low)),
+          s .pre .1 .1 .1 .1,
+        ),
       ),
     )
 

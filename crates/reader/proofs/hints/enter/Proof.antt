@@ -1,17 +1,19 @@
 -- `reader::hints::enter` reads and writes inside the hints, and what it writes fits.
-use Prim.Native.Nat.{_<_}
+use Prim.Native.Nat.{_<_, _≤_}
+use mathlib.Core.Path.{_≡_}
+use lib.ListN.{length}
 use borrow.Author.Needs.{needs}
 use Rattle.reader.proofs.hints.enter.Statement.{statement}
 use Rattle.reader.proofs.hints.enter.Tie as tie
 
 abbrev Inv-loop : tie.InvT-loop
-Inv-loop hints₀ mix k at₀ left₀ hints at left = at < 8192
+Inv-loop hints₀ mix k at₀ left₀ hints at left = (1024 ≤ length hints) × (at < length hints) × (length hints ≡ length hints₀)
 
 abbrev μ-loop : tie.MeasureT-loop
 μ-loop hints₀ mix k at₀ left₀ hints at left = left
 
-spot-requires : tie.Need-spot-requires Inv-loop μ-loop
-spot-requires c κs = search needs
+within-requires : tie.Need-within-requires Inv-loop μ-loop
+within-requires c κs = search needs
 
 loop-holds : tie.Need-loop-holds Inv-loop μ-loop
 loop-holds c = search needs
@@ -19,8 +21,8 @@ loop-holds c = search needs
 mul-if1 : tie.Need-mul-if1 Inv-loop μ-loop
 mul-if1 c = search needs
 
-element-copy-out-if1 : tie.Need-element-copy-out-if1 Inv-loop μ-loop
-element-copy-out-if1 c = search needs
+slice-read-if1 : tie.Need-slice-read-if1 Inv-loop μ-loop
+slice-read-if1 c = search needs
 
 tag-requires : tie.Need-tag-requires Inv-loop μ-loop
 tag-requires c κs = search needs
@@ -34,14 +36,20 @@ add-hints c = search needs
 mul-hints-2 : tie.Need-mul-hints-2 Inv-loop μ-loop
 mul-hints-2 c = search needs
 
-element-write-hints : tie.Need-element-write-hints Inv-loop μ-loop
-element-write-hints c = search needs
+slice-write-hints : tie.Need-slice-write-hints Inv-loop μ-loop
+slice-write-hints c = search needs
+
+same-length : tie.Need-same-length Inv-loop μ-loop
+same-length c = search needs
 
 returns : tie.Need-returns Inv-loop μ-loop
 returns c = search needs
 
-add-at : tie.Need-add-at Inv-loop μ-loop
-add-at c = search needs
+add-within : tie.Need-add-within Inv-loop μ-loop
+add-within c = search needs
+
+within-requires-2 : tie.Need-within-requires-2 Inv-loop μ-loop
+within-requires-2 c κs = search needs
 
 sub-left : tie.Need-sub-left Inv-loop μ-loop
 sub-left c = search needs
@@ -52,6 +60,9 @@ loop-less c = search needs
 loop-again : tie.Need-loop-again Inv-loop μ-loop
 loop-again c = search needs
 
+same-length-2 : tie.Need-same-length-2 Inv-loop μ-loop
+same-length-2 c = search needs
+
 returns-2 : tie.Need-returns-2 Inv-loop μ-loop
 returns-2 c = search needs
 
@@ -61,18 +72,21 @@ enter-spec =
     (tie.spec
     Inv-loop
     μ-loop
-    spot-requires
+    within-requires
     loop-holds
     mul-if1
-    element-copy-out-if1
+    slice-read-if1
     tag-requires
     mul-hints
     add-hints
     mul-hints-2
-    element-write-hints
+    slice-write-hints
+    same-length
     returns
-    add-at
+    add-within
+    within-requires-2
     sub-left
     loop-less
     loop-again
+    same-length-2
     returns-2)

@@ -1,10 +1,13 @@
-use Prim.Native.Nat.{_≤_, _-_}
+-- `reader::hints::fill` reads inside the corner table and writes inside the hints.
+use Prim.Native.Nat.{_-_, _≤_}
+use mathlib.Core.Path.{_≡_}
+use lib.ListN.{length}
 use borrow.Author.Needs.{needs}
 use Rattle.reader.proofs.hints.fill.Statement.{statement}
 use Rattle.reader.proofs.hints.fill.Tie as tie
 
 abbrev Inv-loop : tie.InvT-loop
-Inv-loop corners hints₀ count k₀ hints k = k ≤ count
+Inv-loop corners hints₀ count k₀ hints k = (k ≤ count) × (1024 ≤ length hints) × (length hints ≡ length hints₀)
 
 abbrev μ-loop : tie.MeasureT-loop
 μ-loop corners hints₀ count k₀ hints k = count - k
@@ -33,6 +36,9 @@ loop-less c = search needs
 loop-again : tie.Need-loop-again Inv-loop μ-loop
 loop-again c = search needs
 
+same-length : tie.Need-same-length Inv-loop μ-loop
+same-length c = search needs
+
 returns : tie.Need-returns Inv-loop μ-loop
 returns c = search needs
 
@@ -50,4 +56,5 @@ fill-spec =
     add-k
     loop-less
     loop-again
+    same-length
     returns)
