@@ -1,9 +1,10 @@
 /*
  * Draws the survey in a directory, and prints the listing of the documents' drawing program: points and triangles, or `refused` and a number. The files
- * are `cells`, `corners`, `amendments` and `clearance`; a missing file counts as empty. The slices are as long as the drawing needs.
+ * are `cells`, `corners`, `amendments` and `clearance`; a missing file counts as empty, and one that can't be read ends the program. The slices are as long as the drawing needs.
  *
  *     cc -I include examples/c/draw.c target/staticlib/libclearance.a -o draw && ./draw examples/twin
  */
+#include <errno.h>
 #include <inttypes.h>
 #include <math.h>
 #include <stdio.h>
@@ -45,9 +46,15 @@ static size_t read_file(const char *directory, const char *name, uint8_t *buffer
     }
     FILE *file = fopen(path, "rb");
     if (file == NULL) {
+        if (errno != ENOENT) {
+            fail("a file can't be opened");
+        }
         return 0;
     }
     size_t bytes = fread(buffer, 1, room, file);
+    if (ferror(file)) {
+        fail("a file can't be read");
+    }
     fclose(file);
     return bytes;
 }

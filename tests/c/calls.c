@@ -246,12 +246,12 @@ static void amended_refused(struct survey survey, uint32_t number)
 }
 
 /* Which record holds in the middle, where the corner table has not a number on day 300: the higher day; of equal days an amendment, and the later one. */
-static void amendments(struct survey survey, float not_a_number)
+static void amendments(struct survey survey)
 {
     static const uint8_t no_corner[3] = {1, 2, 2};
     uint8_t *table = allocated(4 * RECORD);
     put_middle(table, 3.0f, 300);
-    put_middle(table + RECORD, not_a_number, 299);
+    put_middle(table + RECORD, 5.0f, 299);
     put_middle(table + 2 * RECORD, 5.0f, 511);
     put_middle(table + 3 * RECORD, 3.0f, 511);
     amended_refused(survey, CLEARANCE_SOUNDING);
@@ -314,7 +314,7 @@ int main(int count, char **arguments)
     drawings(split(middle_wet));
     volumes(split(middle_wet));
     references_beyond_box(split(middle_wet));
-    amendments(split(middle_unsounded), not_a_number);
+    amendments(split(middle_unsounded));
     most_amendments(split(middle_unsounded));
     if (count > 1) {
         trespass(wet);

@@ -24,12 +24,12 @@ use Rattle.rules.specs.Outputs.{surveyOf, levelOf, refused, even, crossing, enq
 use Rattle.rules.specs.Water.{beyondBox, volumeChecks, volume}
 use Rattle.rules.specs.Resounding.{recordsOf, placeIn, dayIn, inForce, amended, badAmendments, strayAmendment, amendmentChecks, asAmended}
 use Rattle.rules.specs.Resounding.{checkAmended, enquiryAmended, undrawn, drawAmended, unreckoned, volumeAmended}
-use Rattle.rules.specs.Resounding.{Holds, HighestHolds, CornersInForce, numberIn, checkOrder, drawingOrder, InOrder, ChecksInOrder}
+use Rattle.rules.specs.Resounding.{Holds, HighestHolds, CornersInForce, AmendedPasses, numberIn, checkOrder, drawingOrder, InOrder, ChecksInOrder}
 use Rattle.rules.specs.Resounding.{AsWithout, EmptyChangesNothing, OlderChangesNothing}
 use Rattle.rules.specs.declared.End.{End}
 use Rattle.octree.proofs.Accepted.{numbered, first-append}
-use Rattle.amendments.proofs.InForce.{amended-record}
-use Rattle.amendments.proofs.Calls.{tables-numbered, tables-same, amended-kept, amended-none, tables-pass, lawful-checks, none-checks}
+use Rattle.amendments.proofs.InForce.{amended-count, amended-record}
+use Rattle.amendments.proofs.Calls.{tables-numbered, tables-same, amended-pass, amended-kept, amended-none, tables-pass, lawful-checks, none-checks}
 use Rattle.amendments.proofs.Calls.{refused-by-amendments, refused-by-tables, called, survey-refused, enquiry-refused, draw-refused, volume-refused}
 
 -- ---- the highest day holds
@@ -101,7 +101,12 @@ highest-holds r amendments = joined amendments (r ∷ []) r (record { earlier = 
 -- the corners of the table made are the corners in force
 pub corners-in-force : CornersInForce
 unfolding CornersInForce
-corners-in-force = amended-record
+corners-in-force tk ta = (amended-count tk ta, amended-record tk ta)
+
+-- and it passes the checks of a corner table
+pub amended-passes : AmendedPasses
+unfolding AmendedPasses
+amended-passes tc tk ta pass = amended-pass tc tk ta (amended tk ta) (tables-pass tc tk ta pass) refl
 
 -- ---- no amendments, or older ones alone, change nothing
 

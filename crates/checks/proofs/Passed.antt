@@ -1,4 +1,4 @@
--- What a survey that checks 1 to 7 pass gives the code above: counts that fit its tables, corner records that rise, and for every corner of every cell a
+-- What a survey that checks 1 to 6 pass gives the code above: counts that fit its tables, corner records that rise, and for every corner of every cell a
 -- record at its place.
 use Prim.Native.Nat.{ℕ, _+_, _*_, _/_, _^_, _≤_, _<_}
 use mathlib.Core.Path.{_≡_, sym, ap, _∙_}

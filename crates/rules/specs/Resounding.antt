@@ -71,7 +71,7 @@ amendmentChecks tc tk ta = tableChecks tc tk ++ (14, badAmendments ta) ∷ (15, 
 -- ---- the calls
 
 -- "Drawing, enquiry and volume are those of the survey so amended": refused by the first of these checks that applies, else the call with the corner table as
--- amended. (Of that table checks 1 to 6 find nothing to refuse either, so that 7 comes next: `InOrder`.)
+-- amended. (Of that table checks 1 to 6 find nothing to refuse either, `AmendedPasses`, so that 7 comes next: `InOrder`.)
 abbrev pub asAmended : {A : Type 0} → List ℕ → List ℕ → List ℕ → (ℕ → A) → (List ℕ → A) → A
 asAmended tc tk ta refusal call =
     let number = firstOf (amendmentChecks tc tk ta) in
@@ -119,10 +119,17 @@ unfoldable pub HighestHolds : Type 0
 unfolding placeIn inForce
 HighestHolds = (r : List ℕ) (amendments : List (List ℕ)) → Holds (r ∷ keep (λ a. same (placeIn r) (placeIn a)) amendments) (inForce r amendments)
 
--- record k of the corner table as amended is the one in force at corner k
+-- the corner table as amended has as many records as before, and record k is the one in force at corner k
 unfoldable pub CornersInForce : Type 0
 unfolding amended inForce
-CornersInForce = (tk ta : List ℕ) (k : ℕ) → k < recordCount tk → recordBytes (amended tk ta) k ≡ inForce (recordBytes tk k) (recordsOf ta)
+CornersInForce = (tk ta : List ℕ) → (recordCount (amended tk ta) ≡ recordCount tk)
+    × ((k : ℕ) → k < recordCount tk → recordBytes (amended tk ta) k ≡ inForce (recordBytes tk k) (recordsOf ta))
+
+-- Of tables that pass checks 1 to 6, 14 and 15, the corner table as amended passes 1 to 6 too. So whatever holds of every survey that is accepted, or drawn,
+-- holds of the survey as amended.
+unfoldable pub AmendedPasses : Type 0
+unfolding tableChecks amendmentChecks amended
+AmendedPasses = (tc tk ta : List ℕ) → firstOf (amendmentChecks tc tk ta) ≡ 0 → firstOf (tableChecks tc (amended tk ta)) ≡ 0
 
 -- The checks of the survey by itself in their order: 1 to 6 of the tables as lent, 14, 15, and 7 of the table as amended: "refusal 7 looks only at soundings in
 -- force".

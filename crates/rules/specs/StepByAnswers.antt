@@ -37,7 +37,7 @@ pub record FourAnswers : Type 0 where
   pub third : Enquired
   pub fourth : Enquired
 
--- the enquiry's answer for an edge
+-- the enquiry's answer for an edge; where there are amendments, tk is the corner table as amended (Resounding.antt)
 unfoldable pub answerTo : List ℕ → List ℕ → Float → CellEdge → Enquired
 unfolding enquiry
 answerTo tc tk clearance e = enquiry tc tk clearance (axisNumber (e .axis)) (e .low) (2 ^ e .level)

@@ -1,5 +1,5 @@
 -- Document 02, request 4, "Water in the pool": the call that draws and gives six times the volume inside the surface, a signed whole number; and what the
--- request says of that number. Check 13 stands after 12 and before 9.
+-- request says of that number. Check 13 stands after 12 and before 9. All is without amendments; with them, see Resounding.antt.
 use Prim.Native.Nat.{ℕ, _+_, _*_, _/_, _^_, _≤_, _<_}
 use mathlib.Core.Path.{_≡_}
 use mathlib.Core.Bool.{Bool, false, not, cond}

@@ -11,14 +11,14 @@ use Rattle.rules.specs.Water.{Reckoning, volume}
 use Rattle.rules.specs.Resounding.{amended, amendmentChecks, unreckoned, volumeAmended}
 use Rattle.rules.specs.declared.Water.{Water}
 use Rattle.amendments.proofs.Calls.{amended-none, refused-by-tables, refused-by-amendments, called, none-amended}
-use Rattle.volume.specs.Reckons.{Reckons, Sound}
+use Rattle.volume.specs.Reckons.{Reckons, ClosedAnywhere}
 use Rattle.volume.proofs.Reckoned.{Promised}
 
 module _ (tc tk ta : List ℕ) (clearance : Float) (ps : List Float) (ts : List ℕ) (reference : Place) where
   -- what the call promises of its result and the slices
   abbrev pub PromisedAmended : List Float → List ℕ → Water → Type 0
   PromisedAmended points triangles w =
-      Reckons (volumeAmended tc tk ta clearance reference ps ts) w points triangles × Sound tc (amended tk ta) clearance w points triangles
+      Reckons (volumeAmended tc tk ta clearance reference ps ts) w points triangles × ClosedAnywhere tc (amended tk ta) clearance w points triangles
 
   -- a refusal
   nothing : (n : ℕ) → (n ≡ 0 → ⊥) → volumeAmended tc tk ta clearance reference ps ts ≡ unreckoned n ps ts
@@ -54,7 +54,7 @@ module _ (tc tk ta : List ℕ) (clearance : Float) (ps : List Float) (ts : List 
         let is : volumeAmended tc tk ta clearance reference ps ts ≡ volume tc (amended tk ta) clearance reference ps ts =
         unfold volumeAmended in called tc tk ta (λ m. unreckoned m ps ts) (λ t. volume tc t clearance reference ps ts) pass in (
           subst (λ (k : Reckoning). Reckons k w points triangles) (ap (λ (u : List ℕ). volume tc u clearance reference ps ts) e ∙ sym is) (p .0),
-          subst (λ (u : List ℕ). Sound tc u clearance w points triangles) e (p .1),
+          subst (λ (u : List ℕ). ClosedAnywhere tc u clearance w points triangles) e (p .1),
         )
 
     -- without amendments: with the corner table as it was lent
@@ -65,5 +65,5 @@ module _ (tc tk ta : List ℕ) (clearance : Float) (ps : List Float) (ts : List 
         unfold volumeAmended in none-amended tc tk (λ m. unreckoned m ps ts) (λ t. volume tc t clearance reference ps ts) pass in (
           subst (λ (k : Reckoning). Reckons k w points triangles)
               (sym (ap (λ (u : List ℕ). volumeAmended tc tk u clearance reference ps ts) none ∙ is)) (p .0),
-          subst (λ (u : List ℕ). Sound tc u clearance w points triangles) (sym (ap (amended tk) none ∙ amended-none tc tk pass)) (p .1),
+          subst (λ (u : List ℕ). ClosedAnywhere tc u clearance w points triangles) (sym (ap (amended tk) none ∙ amended-none tc tk pass)) (p .1),
         )

@@ -24,7 +24,7 @@ use Rattle.water.specs.Corners.{Summable}
 use Rattle.drawing.specs.Draws.{Draws}
 use Rattle.drawing.proofs.Drawn.{whole, drawn-is, drawn-fits}
 use Rattle.drawing.proofs.Outcome.{drawn-closed}
-use Rattle.volume.specs.Reckons.{sixfoldFrom, Reckons, Sound}
+use Rattle.volume.specs.Reckons.{sixfoldFrom, Reckons, ClosedAnywhere}
 use Rattle.volume.proofs.Outcome.{withVolume, total, inside, reckoned, turned-away}
 use Rattle.volume.proofs.References.{same-sum}
 use Rattle.volume.proofs.Slices.{all-below, summable, slices-sum}
@@ -40,7 +40,7 @@ any-reference tc tk clearance ok p q _ _ =
 -- what the call promises of its result and the slices
 abbrev pub Promised : List ℕ → List ℕ → Float → List Float → List ℕ → Place → List Float → List ℕ → Water → Type 0
 Promised tc tk clearance ps ts reference points triangles w =
-    Reckons (volume tc tk clearance reference ps ts) w points triangles × Sound tc tk clearance w points triangles
+    Reckons (volume tc tk clearance reference ps ts) w points triangles × ClosedAnywhere tc tk clearance w points triangles
 
 -- ---- what was drawn
 

@@ -31,7 +31,7 @@ abbrev pub sixfoldFrom : Place → List ℕ → List ℕ → Float → ℤ
 sixfoldFrom q tc tk clearance = sixfold q (pointFloats tc tk clearance) (allTriangles (surveyOf tc tk clearance))
 
 -- where the number is 0: what stands in the slices is closed, and the volume is the same from every reference of the box
-abbrev pub Sound : List ℕ → List ℕ → Float → Water → List Float → List ℕ → Type 0
-Sound tc tk clearance w points triangles =
+abbrev pub ClosedAnywhere : List ℕ → List ℕ → Float → Water → List Float → List ℕ → Type 0
+ClosedAnywhere tc tk clearance w points triangles =
     (w .number ≡ 0 → ClosedIn tc tk clearance (drawnPart w) points triangles)
     × (w .number ≡ 0 → (q : Place) → T (not (beyondBox q)) → w .sixfold ≡ sixfoldFrom q tc tk clearance)

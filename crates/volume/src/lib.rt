@@ -13,7 +13,7 @@ ghost use Rattle.rules.specs.Resounding.{amended, volumeAmended};
 ghost use Rattle.checks.specs.Tables.{Tables};
 ghost use Rattle.edges.specs.Tables.{Wets};
 ghost use Rattle.water.specs.Corners.{referencePlace};
-ghost use Rattle.volume.specs.Reckons.{drawnPart, sixfoldFrom, Sound, Reckons};
+ghost use Rattle.volume.specs.Reckons.{drawnPart, sixfoldFrom, ClosedAnywhere, Reckons};
 use rules::Drawn;
 use rules::Water;
 use water::Reference;
@@ -86,7 +86,7 @@ fn reckon_in_force(
     requires { ⌜ Tables (now cells) (now corners) (now laid) (now octants) ⌝ }
     ensures { λ r. ⌜ Reckons (volume (now (cells .entry)) (now (corners .entry)) (asked .clearance) (referencePlace (asked .reference))
         (now (points .entry)) (now (triangles .entry))) r (now (points .exit)) (now (triangles .exit)) ⌝ }
-    ensures { λ r. ⌜ Sound (now (cells .entry)) (now (corners .entry)) (asked .clearance) r (now (points .exit)) (now (triangles .exit)) ⌝ }
+    ensures { λ r. ⌜ ClosedAnywhere (now (cells .entry)) (now (corners .entry)) (asked .clearance) r (now (points .exit)) (now (triangles .exit)) ⌝ }
 {
     let mut wets = [0u8; 4872];
     let number = refusal(cells, corners, asked, &mut wets);
@@ -126,7 +126,7 @@ fn reckon_amended(
     requires { ⌜ Tables (now cells) (now corners) (now laid) (now octants) ⌝ }
     ensures { λ r. ⌜ Reckons (volumeAmended (now (cells .entry)) (now (corners .entry)) (now (amendments .entry)) (asked .clearance)
         (referencePlace (asked .reference)) (now (points .entry)) (now (triangles .entry))) r (now (points .exit)) (now (triangles .exit)) ⌝ }
-    ensures { λ r. ⌜ Sound (now (cells .entry)) (amended (now (corners .entry)) (now (amendments .entry))) (asked .clearance) r
+    ensures { λ r. ⌜ ClosedAnywhere (now (cells .entry)) (amended (now (corners .entry)) (now (amendments .entry))) (asked .clearance) r
         (now (points .exit)) (now (triangles .exit)) ⌝ }
 {
     let mut table = [0u8; records::LIMIT];

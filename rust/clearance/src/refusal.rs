@@ -6,7 +6,7 @@ use std::fmt;
 /// 8 and 9, and 14 and 15, which stand between 6 and 7; the first that applies is given.
 ///
 /// So refusals compare by number and not by the order of checks: only [`PointSlice`](Refusal::PointSlice) and
-/// [`TriangleSlice`](Refusal::TriangleSlice) say that there is a drawing, and four others are above both.
+/// [`TriangleSlice`](Refusal::TriangleSlice) say that there is a drawing, and of the others that drawing gives 12, 14 and 15 are above both.
 ///
 /// ```
 /// use clearance::{Refusal, Survey};

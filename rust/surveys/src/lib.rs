@@ -9,7 +9,7 @@
 //! - [`damage`]: random damaged surveys, each with the refusal it must meet.
 //! - [`lent`]: what stands in lent slices before a drawing, to see what it touches.
 //! - [`references`]: points to reckon the space inside a drawing from, in the box and beyond it.
-//! - [`tally`]: how many surveys of a comparison were drawn, how many of these by amendments, and how many refused at the
+//! - [`tally`]: how many surveys of a comparison were drawn, how many of these are amended, and how many refused at the
 //!   box.
 //! - [`refusals`], [`plain`], [`closing`], [`water`]: the documents' checks, their edges, points and records in force, "What
 //!   closing says" and the space inside, written for the reader and not for speed, and with nothing shared with any drawing.

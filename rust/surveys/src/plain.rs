@@ -206,16 +206,16 @@ pub fn in_force(survey: &Survey) -> Vec<Held> {
         amendments.entry(record.place).or_default().push(Held { record, amendment: Some(number) });
     }
     let holding = |record: Record| {
-        let mut rising = vec![Held { record, amendment: None }];
-        rising.extend(amendments.get(&record.place).into_iter().flatten());
-        strongest(&rising)
+        let mut candidates = vec![Held { record, amendment: None }];
+        candidates.extend(amendments.get(&record.place).into_iter().flatten());
+        strongest(&candidates)
     };
     records(&survey.corners).map(holding).collect()
 }
 
 /// Of the records for one corner, the corner table's and then the amendments in their order, that which holds: of those of
 /// the highest day the last.
-fn strongest(rising: &[Held]) -> Held {
-    let highest = rising.iter().map(|held| held.record.day).max();
-    *rising.iter().rfind(|held| Some(held.record.day) == highest).expect("a corner has a record")
+fn strongest(candidates: &[Held]) -> Held {
+    let highest = candidates.iter().map(|held| held.record.day).max();
+    *candidates.iter().rfind(|held| Some(held.record.day) == highest).expect("a corner has a record")
 }

@@ -43,7 +43,7 @@ impl Tally {
         assert!(self.shows_enough(), "{what}: {self}");
     }
 
-    /// By far most were drawn, most with points, a quarter by amendments, and some refused.
+    /// By far most were drawn, most with points, a quarter amended, and some refused.
     fn shows_enough(&self) -> bool {
         let Tally { with_points, empty, amended, open } = *self;
         let total = with_points + empty + open;

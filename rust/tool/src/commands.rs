@@ -177,7 +177,7 @@ const COMMANDS: [Command; 10] = [
         arguments: "[NAME DIR]",
         summary: "write an example survey, or list the names",
         help: "Writes the files cells, corners and clearance of the example NAME, and amendments if it has any, into DIR, which is\n\
-               made if need be. No file is written over. Without arguments, lists the names.",
+               made if need be. Nothing is written if DIR has one of these four files already. Without arguments, lists the names.",
         takes: || vec![path("NAME").required(false).requires(DIRECTORY), path(DIRECTORY).required(false)],
         run: example,
     },

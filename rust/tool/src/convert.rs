@@ -7,7 +7,8 @@ const MOST_BYTES: usize = 48_720;
 
 /// The table with day 0 in every record; or why these bytes are no corner table without days.
 ///
-/// A length may be that of whole records of either size. The records of a corner table rise strictly; read in the other size they don't.
+/// A length may be that of whole records of either size. The records of a corner table rise strictly; read in the other size they
+/// hardly ever do, and a table that rises either way is refused.
 pub fn dated(table: &[u8]) -> Result<Vec<u8>, &'static str> {
     let [rises_without_days, rises_with_days] =
         [Record::BYTES_WITHOUT_DAY, Record::BYTES].map(|size| rises(table, size));

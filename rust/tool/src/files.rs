@@ -19,8 +19,8 @@ pub fn tables(Survey { cells, corners, amendments, .. }: &Survey) -> clearance::
     clearance::Survey { cells, corners, amendments }
 }
 
-/// Reads the cell table, the corner table and the amendments. A missing file is a failure, but for the amendments, which most surveys have none of: an
-/// empty table would be refused with words about the table, when it is the directory that is wrong.
+/// Reads the cell table, the corner table and the amendments. A missing file is a failure, since an empty table would be refused with words about
+/// the table when it is the directory that is wrong. Amendments need not be there: most surveys have none.
 pub fn read_tables(directory: &Path) -> Result<[Vec<u8>; 3], Failure> {
     Ok([read_file(directory, CELLS)?, read_file(directory, CORNERS)?, read_if_there(directory, AMENDMENTS)?])
 }

@@ -1,4 +1,5 @@
-//! The command-line tool over the proved library: checks, draws, exports and pictures surveys, and writes example surveys.
+//! The command-line tool over the proved library: checks, draws, exports and pictures surveys, reckons their volume, converts old
+//! corner tables and writes example surveys.
 //!
 //! - [`commands`]: the table of commands with their help, and [`run`], which picks one; [`arguments`] says what they take, and what is wrong with it.
 //! - [`files`]: a survey as the files of a directory; [`convert`]: corner tables of old; [`failure`]: what can go wrong, and the exit status.
