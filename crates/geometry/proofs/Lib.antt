@@ -23,3 +23,4 @@ pub mod Touching
 pub mod SmallFaces
 pub mod FaceEdges
 pub mod Around
+pub mod Examples

@@ -1,5 +1,5 @@
 -- Further surveys under the same statement: drawings and enquiries that tell wrong rules apart which the starred ones let pass; every refusal
--- from 1 to 8, and 11; and which one is given where two apply.
+-- from 1 to 8, and 11; and which one is given where two apply. Some more are in geometry/proofs/Examples.antt.
 -- Assumes nothing.
 use Prim.Native.Nat.{ℕ, _+_, _-_, _*_}
 use mathlib.Core.List.{List, [], _∷_, _++_}
@@ -10,14 +10,9 @@ use Rattle.rules.specs.Survey.{cellsOf}
 use Rattle.rules.proofs.Surveys.{cellTable, cornerTable, place, Soundings, at, one, minusOne, two, three, greatest, least, notANumber, wetAtOnly}
 use Rattle.rules.proofs.Surveys.{Shape, shape, leaves, leaf, split}
 use Rattle.rules.proofs.Surveys.{checking, drawing, asking, Example, example, exampleAt, untouched, Right, right, Each, each}
-use Rattle.rules.proofs.Starred.{f64, f128, f256, f512, centre, twins}
+use Rattle.rules.proofs.Starred.{f64, f256, f512, centre, twins}
 
 -- ---- surveys
-
--- splits in records 0, 1 and 10: an open point lies inside a side of a leaf, not on an edge of it
-unfoldable pub insideSide : Shape
-unfolding cellsOf
-insideSide = shape (1 ∷ 9 ∷ leaves 8 ++ 17 ∷ leaves 14) (0 ∷ 128 ∷ 256 ∷ 384 ∷ 512 ∷ 1024 ∷ [])
 
 -- splits in records 0, 1, 15 and 23: two pairs of twins on one line, and one pair is found only past an odd edge
 unfoldable pub twoPairs : Shape
@@ -67,11 +62,8 @@ refusedTable n s t = record { cells = s .cells; corners = t; clearance = 0; call
 -- ---- drawings and enquiries
 
 unfoldable pub drawings : List Example
-unfolding insideSide twoPairs twins
+unfolding twoPairs twins
 drawings =
-    example insideSide (wetAtOnly (place 512 128 256 ∷ [])) (drawing 12 12)
-    (0 ∷ 4 ∷ 4 ∷ 0x43e0_0000 ∷ f128 ∷ f256 ∷ f512 ∷ f64 ∷ f256 ∷ f512 ∷ 0x4340_0000 ∷ f256 ∷ f512 ∷ f128 ∷ 0x4340_0000 ∷
-    1 ∷ 3 ∷ 2 ∷ 0 ∷ 1 ∷ 2 ∷ 0 ∷ 3 ∷ 1 ∷ 0 ∷ 2 ∷ 3 ∷ []) ∷
     -- wet 2 and dry -1: a place reckoned from the lower end would round otherwise
     example twoPairs (at (place 64 512 512 ∷ place 256 512 512 ∷ []) two minusOne) (drawing 24 24)
     (0 ∷ 8 ∷ 8 ∷ 0x41aa_aaab ∷ f512 ∷ f512 ∷ 0x42d5_5555 ∷ f512 ∷ f512 ∷ 0x432a_aaab ∷ f512 ∷ f512 ∷ 0x43d5_5555 ∷ f512 ∷ f512 ∷
@@ -82,10 +74,7 @@ drawings =
     -- a divided edge that is even, though its halves are odd
     example twins (wetAtOnly (place 256 0 0 ∷ [])) (asking 0 (place 0 0 0) 512) (0 ∷ []) ∷
     -- a place is reckoned from the dry end: wet 1 at 0, dry -2 at 1,024 gives 1,024 - 682.6667 and not 341.33334
-    example leaf (at (place 0 0 0 ∷ []) one 0xc000_0000) (asking 0 (place 0 0 0) 1024) (0 ∷ 0 ∷ 0x43aa_aaaa ∷ 0 ∷ 0 ∷ 1 ∷ []) ∷
-    -- the child in place 1 is in the upper half of x: split, it has this edge
-    example insideSide centre (asking 0 (place 256 0 0) 128) (0 ∷ []) ∷
-    example insideSide centre (asking 1 (place 0 256 0) 128) (11 ∷ []) ∷ []
+    example leaf (at (place 0 0 0 ∷ []) one 0xc000_0000) (asking 0 (place 0 0 0) 1024) (0 ∷ 0 ∷ 0x43aa_aaaa ∷ 0 ∷ 0 ∷ 1 ∷ []) ∷ []
 
 -- ---- refusals
 
@@ -155,7 +144,7 @@ lowest =
 
 -- Each of them gives what document 01 asks.
 pub drawings-right : Each Right drawings
-unfolding right drawings centre
+unfolding right drawings
 drawings-right = each drawings tt
 
 pub refusals-right : Each Right refusals

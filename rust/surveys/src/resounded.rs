@@ -89,7 +89,11 @@ fn centres() -> Vec<(&'static str, Survey, Option<f32>)> {
         ("the higher day first", centre((1.0, 0), &[(3.0, 6), (-1.0, 5)]), three),
         ("the higher day last", centre((1.0, 0), &[(-1.0, 5), (3.0, 6)]), three),
         ("the highest day between", centre((1.0, 0), &[(-1.0, 5), (3.0, 6), (-1.0, 4)]), three),
-        ("two of the highest day, then an older one: the second", centre((1.0, 1), &[(-1.0, 6), (3.0, 6), (-1.0, 5)]), three),
+        (
+            "the highest day twice, then an older: the second",
+            centre((1.0, 1), &[(-1.0, 6), (3.0, 6), (-1.0, 5)]),
+            three,
+        ),
         ("a day that is higher in its high byte", centre((1.0, 0), &[(3.0, 256), (-1.0, 255)]), three),
         ("a day that would be negative", centre((1.0, 0), &[(3.0, 32_768), (-1.0, 32_767)]), three),
         ("not a number, put right", centre((f32::NAN, 0), &[(3.0, 1)]), three),

@@ -8,11 +8,12 @@ use common::{printed, run, survey, text, Place, Ran};
 use surveys::document;
 use surveys::survey::without_days;
 
-/// The commands that read the survey in a directory, with what else they take.
-fn commands(directory: &str) -> [Vec<&str>; 6] {
+/// The commands that read the survey in a directory, with what else they take, but for `render`, which makes a file.
+fn commands(directory: &str) -> [Vec<&str>; 7] {
     [
         vec!["check", directory],
         vec!["draw", directory],
+        vec!["info", directory],
         vec!["volume", directory],
         vec!["obj", directory],
         vec!["ply", directory],
@@ -52,11 +53,23 @@ fn a_missing_file_of_amendments_counts_as_empty_for_every_command() {
     let amendments = place.path.join("twin/amendments");
     assert!(!amendments.exists());
     let missing = commands(&directory).map(|command| printed(&command));
-    let info = printed(&["info", &directory]);
-    assert!(!info.contains("amendments"), "{info}");
+    assert!(!missing.concat().contains("amendments"), "{missing:?}");
     fs::write(&amendments, []).expect("a file");
     assert_eq!(commands(&directory).map(|command| printed(&command)), missing);
-    assert_eq!(printed(&["info", &directory]), info);
+}
+
+#[test]
+fn amendments_that_cannot_be_read_are_an_error_for_every_command() {
+    let place = Place::new("unreadable");
+    let directory = place.example("twin");
+    fs::create_dir(place.path.join("twin/amendments")).expect("a directory");
+    let picture = place.below("picture.svg");
+    let render = vec!["render", &directory, &picture];
+    for command in commands(&directory).into_iter().chain([render]) {
+        let Ran { status, out, errors } = run(&command);
+        assert_eq!((status, out.as_str()), (2, ""), "{command:?}");
+        assert!(errors.contains("/amendments: "), "{command:?}: {errors}");
+    }
 }
 
 #[test]
@@ -71,7 +84,8 @@ fn amendments_that_are_not_lawful_are_refused_by_every_command() {
         let [check, draw, others @ ..] = commands(&directory).map(|command| run(&command));
         assert_eq!((check.status, check.out.as_str()), (1, words));
         assert_eq!((draw.status, draw.out), (1, format!("{}\n", &words[..10])));
-        for Ran { status, out, errors } in others {
+        let render = run(&["render", &directory, &place.below("picture.svg")]);
+        for Ran { status, out, errors } in others.into_iter().chain([render]) {
             assert_eq!((status, out, errors), (1, String::new(), format!("clearance: {words}")));
         }
     }
