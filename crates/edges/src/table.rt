@@ -4,8 +4,8 @@ ghost use Prim.Native.Nat.{_<_};
 ghost use lib.ListN.{length};
 ghost use Rattle.edges.specs.Tables.{lowestAt, highestAt, farAt, numberAt};
 
-// What stands everywhere in the table before any edge is noted: the lowest level is 11, which no edge has, and the highest is 0. Both bytes are 11, since a table
-// of equal bytes is sooner filled.
+// What stands everywhere in the table before any edge is noted: the lowest level is 11, which no edge has, and the highest is 0. Both bytes are 11, since a
+// table of equal bytes is sooner filled.
 pub const EMPTY: u16 = 0x0b0b;
 
 // The lowest level of the edges that start at a slot, or 11.

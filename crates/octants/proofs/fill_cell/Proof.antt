@@ -33,7 +33,8 @@ octant-key-requires c κs = (omega arith, omega (arith, size-fits (c .before .be
 add-find : tie.Need-add-find Inv-loop μ-loop
 add-find c =
     let z = c .before .before .before in
-    omega (arith, octant-key-le (c .before .before .loop .i) (z .size-of .result) (omega arith) (omega (arith, size-fits (z .before .before .before .before .args .level) (omega arith))))
+    let fits = size-fits (z .before .before .before .before .args .level) (omega arith) in
+    omega (arith, octant-key-le (c .before .before .loop .i) (z .size-of .result) (omega arith) (omega (arith, fits)))
 
 find-requires : tie.Need-find-requires Inv-loop μ-loop
 find-requires c κs = let s = c .before .before .before .before .before .before .before in (s .pre .0, s .pre .1 .1 .1)
