@@ -10,3 +10,4 @@ pub mod StepByAnswers
 pub mod AwashPlaces
 pub mod Water
 pub mod Resounding
+pub mod Calendar

@@ -57,3 +57,10 @@ pub struct Water {
     pub triangles: u32,
     pub sixfold: i64,
 }
+
+// A record of a calendar: the minutes of the year for which it holds, and the clearance then. Document 02, request 7.
+pub struct Period {
+    pub from: u32,
+    pub until: u32,
+    pub clearance: f32,
+}
