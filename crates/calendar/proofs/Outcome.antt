@@ -29,8 +29,11 @@ module _ (tc tk ta t : List ℕ) (minute : ℕ) (ps : List Float) (ts : List ℕ
       → Draws drawing r ps ts
   refuses n r read is =
       let e = sym (undrawn-by tc tk ta t minute ps ts n read) in
-      record { result-is = is ∙ ap (λ (d : Drawing). d .result) e; points-are = ap (λ (d : Drawing). d .points) e;
-        triangles-are = ap (λ (d : Drawing). d .triangles) e }
+      record {
+        result-is = is ∙ ap (λ (d : Drawing). d .result) e;
+        points-are = ap (λ (d : Drawing). d .points) e;
+        triangles-are = ap (λ (d : Drawing). d .triangles) e;
+      }
 
   module _ (r : Drawn) (points : List Float) (triangles : List ℕ) where
     -- it has a clearance

@@ -84,8 +84,11 @@ fn read(calendar: &[u8], minute: u32) -> Reading
 
 // Where the calendar refuses: the first refusal of the survey by itself, and only then the calendar's.
 fn refused(cells: &[u8], corners: &[u8], amendments: &[u8], number: u32) -> Drawn
-    ensures { λ r. ⌜ r ≡ record { number = firstOf (checkOrder (now (cells .entry)) (now (corners .entry)) (now (amendments .entry)) ++ (number, true) ∷ []);
-        points = 0; triangles = 0 } ⌝ }
+    ensures { λ r. ⌜ r ≡ record {
+      number = firstOf (checkOrder (now (cells .entry)) (now (corners .entry)) (now (amendments .entry)) ++ (number, true) ∷ []);
+      points = 0;
+      triangles = 0;
+    } ⌝ }
 {
     let first = checks::check(cells, corners, amendments);
     Drawn {
@@ -118,7 +121,12 @@ pub fn draw(
     match read(calendar, minute) {
         Reading::Refused(number) => refused(cells, corners, amendments, number),
         Reading::Clearance(clearance) => drawing::draw(
-            cells, corners, amendments, clearance, points, triangles,
+            cells,
+            corners,
+            amendments,
+            clearance,
+            points,
+            triangles,
         ),
     }
 }

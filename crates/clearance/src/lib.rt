@@ -7,12 +7,14 @@ use rules::End;
 use water::Reference;
 ghost use mathlib.Core.Path.{_≡_};
 ghost use mathlib.Core.Bool.{not};
+ghost use Prim.Native.Nat.{ℕ};
 ghost use lib.Dec.{T};
 ghost use Rattle.base.specs.Grid.{Place};
 ghost use Rattle.rules.specs.Outputs.{surveyOf, asked, answered, StaysOn};
 ghost use Rattle.rules.specs.Closing.{ClosedIn};
 ghost use Rattle.rules.specs.Water.{beyondBox};
 ghost use Rattle.rules.specs.Resounding.{amended, checkAmended, enquiryAmended, drawAmended, volumeAmended};
+ghost use Rattle.rules.specs.Calendar.{periodAt, clearanceAt, drawByCalendar, InForce};
 ghost use Rattle.enquiry.specs.Enquiry.{lowerEnd};
 ghost use Rattle.water.specs.Corners.{referencePlace};
 ghost use Rattle.drawing.specs.Draws.{Draws};
@@ -145,6 +147,41 @@ pub extern "C" fn clearance_draw(
         (now (points .exit)) (now (triangles .exit))) ⌝ }
 {
     let d = drawing::draw(cells, corners, amendments, clearance, points, triangles);
+    Counts {
+        number: d.number,
+        points: d.points,
+        triangles: d.triangles,
+    }
+}
+
+// Draws as clearance_draw does, at the clearance that a calendar has in force at a minute.
+#[no_mangle]
+pub extern "C" fn clearance_draw_by_calendar(
+    cells: &[u8],
+    corners: &[u8],
+    amendments: &[u8],
+    calendar: &[u8],
+    minute: u32,
+    points: &mut [f32],
+    triangles: &mut [u32],
+) -> Counts
+    ensures exact { λ r. ⌜ Draws (drawByCalendar (now (cells .entry)) (now (corners .entry)) (now (amendments .entry)) (now (calendar .entry)) minute
+        (now (points .entry)) (now (triangles .entry))) (drawnOf r) (now (points .exit)) (now (triangles .exit)) ⌝ }
+    ensures by_hand { λ r. ⌜ ((k : ℕ) → InForce (now (calendar .entry)) minute k
+        → Draws (drawAmended (now (cells .entry)) (now (corners .entry)) (now (amendments .entry)) (periodAt (now (calendar .entry)) k .clearance)
+        (now (points .entry)) (now (triangles .entry))) (drawnOf r) (now (points .exit)) (now (triangles .exit))) ⌝ }
+    ensures closes { λ r. ⌜ (r .number ≡ 0 → ClosedIn (now (cells .entry)) (amended (now (corners .entry)) (now (amendments .entry)))
+        (clearanceAt (now (calendar .entry)) minute) (drawnOf r) (now (points .exit)) (now (triangles .exit))) ⌝ }
+{
+    let d = calendar::draw(
+        cells,
+        corners,
+        amendments,
+        calendar,
+        minute,
+        points,
+        triangles,
+    );
     Counts {
         number: d.number,
         points: d.points,

@@ -116,4 +116,4 @@ CalendarInOrder = (tc tk ta t : List ℕ) (minute : ℕ) (ps : List Float) (ts :
     → let clearance = clearanceAt t minute in
     drawByCalendar tc tk ta t minute ps ts .result .number
     ≡ firstOf (calendarChecks tc tk ta t minute ++ (8, not (inRange clearance)) ∷ (12, openAtBox (amended tk ta) clearance)
-      ∷ sliceChecks tc (amended tk ta) clearance ps ts)
+    ∷ sliceChecks tc (amended tk ta) clearance ps ts)

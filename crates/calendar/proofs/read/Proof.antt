@@ -73,7 +73,7 @@ loop-again c =
       l .inv .0,
       omega (arith, l .inv .0),
       (λ i. pass (a .minute) (new i) (read i .until) (drop (l .k + 1) (periodsOf t)))
-      ∙ went-on t (a .minute) (l .reading) (l .ended) (l .k) (omega (arith, l .inv .0)) lawful ∙ l .inv .2,
+          ∙ went-on t (a .minute) (l .reading) (l .ended) (l .k) (omega (arith, l .inv .0)) lawful ∙ l .inv .2,
     )
 
 returns-3 : tie.Need-returns-3 Inv-loop μ-loop
