@@ -13,7 +13,7 @@ use borrow.Author.Tests.{lt-leb}
 use native.Mathlib.Nat.{add-zero}
 use Rattle.base.specs.Lists.{any, all, little, bytes}
 use Rattle.base.proofs.Tests.{and→, true→, either}
-use Rattle.rules.specs.Calendar.{periodSize, periodAt, holdsAt, rightPeriod, inTurn}
+use Rattle.rules.specs.Calendar.{periodSize, periodAt, holdsAt, yearEnd, rightPeriod, inTurn}
 use Rattle.rules.specs.declared.Period.{Period}
 use Rattle.records.proofs.Bytes.{part}
 
@@ -65,18 +65,18 @@ follow-is (p ∷ rest) =
 pub record Follows (ended : ℕ) (p : Period) (rest : List Period) : Type 0 where
   pub begins : ended ≤ p .from
   pub lasts : p .from < p .until
-  pub ends : p .until ≤ 527040
+  pub ends : p .until ≤ yearEnd
   pub behind : T (follow (p .until) rest)
 
 pub follows→ : (ended : ℕ) (p : Period) (rest : List Period) → T (follow ended (p ∷ rest)) → Follows ended p rest
 follows→ ended p rest f =
     let (here, behind) = and→ (follows ended p) (follow (p .until) rest) f in
     let (begins, right) = and→ (leb ended (p .from)) (rightPeriod p) here in
-    let (lasts, ends) = and→ (ltb (p .from) (p .until)) (leb (p .until) 527040) right in
-    record { begins = leb→le ended (p .from) begins; lasts = ltb→lt (p .from) (p .until) lasts; ends = leb→le (p .until) 527040 ends; behind = behind }
+    let (lasts, ends) = and→ (ltb (p .from) (p .until)) (leb (p .until) yearEnd) right in
+    record { begins = leb→le ended (p .from) begins; lasts = ltb→lt (p .from) (p .until) lasts; ends = leb→le (p .until) yearEnd ends; behind = behind }
 
 -- each takes a minute at least
-pub few : (ended : ℕ) (ps : List Period) → ended ≤ 527040 → T (follow ended ps) → ended + length ps ≤ 527040
+pub few : (ended : ℕ) (ps : List Period) → ended ≤ yearEnd → T (follow ended ps) → ended + length ps ≤ yearEnd
 few ended [] h f = omega arith
 few ended (p ∷ rest) h f = let s = follows→ ended p rest f in omega (arith, few (p .until) rest (s .ends) (s .behind), s .begins, s .lasts)
 

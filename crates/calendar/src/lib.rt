@@ -24,8 +24,8 @@ pub enum Reading {
 // The size of a record in bytes.
 const SIZE: usize = 12;
 
-// The last minute that a record may end at.
-const YEAR: u32 = 527040;
+// The latest minute that a record may end at.
+const YEAR_END: u32 = 527040;
 
 // Record `k` of a calendar.
 fn period_at(calendar: &[u8], k: usize) -> Period
@@ -47,7 +47,7 @@ fn period_at(calendar: &[u8], k: usize) -> Period
 fn follows(p: Period, ended: u32) -> bool
     ensures { λ r. ⌜ r ≡ leb ended (p .from) && rightPeriod p ⌝ }
 {
-    ended <= p.from && (p.from < p.until && p.until <= YEAR)
+    ended <= p.from && (p.from < p.until && p.until <= YEAR_END)
 }
 
 // A record holds from its first minute up to, not including, its last.

@@ -173,7 +173,7 @@ pub extern "C" fn clearance_draw_by_calendar(
     ensures closes { λ r. ⌜ (r .number ≡ 0 → ClosedIn (now (cells .entry)) (amended (now (corners .entry)) (now (amendments .entry)))
         (clearanceAt (now (calendar .entry)) minute) (drawnOf r) (now (points .exit)) (now (triangles .exit))) ⌝ }
 {
-    let d = calendar::draw(
+    let drawn = calendar::draw(
         cells,
         corners,
         amendments,
@@ -183,9 +183,9 @@ pub extern "C" fn clearance_draw_by_calendar(
         triangles,
     );
     Counts {
-        number: d.number,
-        points: d.points,
-        triangles: d.triangles,
+        number: drawn.number,
+        points: drawn.points,
+        triangles: drawn.triangles,
     }
 }
 

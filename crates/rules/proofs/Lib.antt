@@ -6,3 +6,4 @@ pub mod Awash
 pub mod OpenAtBox
 pub mod Volumes
 pub mod Resounding
+pub mod Calendar

@@ -37,9 +37,13 @@ periodsOf t = map (periodAt t) (count 0 (periodCount t))
 abbrev pub holdsAt : ℕ → Period → Bool
 holdsAt minute p = leb (p .from) minute && ltb minute (p .until)
 
--- "minutes of the year, until at most 527,040", and "each from is below its until"
+-- "minutes of the year, until at most 527,040"
+abbrev pub yearEnd : ℕ
+yearEnd = 527040
+
+-- "Each from is below its until", and that is no later than the year's end
 abbrev pub rightPeriod : Period → Bool
-rightPeriod p = ltb (p .from) (p .until) && leb (p .until) 527040
+rightPeriod p = ltb (p .from) (p .until) && leb (p .until) yearEnd
 
 -- "no record begins before the one ahead of it has ended, though it may begin at that very minute"
 unfoldable pub inTurn : List Period → Bool
@@ -47,8 +51,8 @@ inTurn [] = true
 inTurn (p ∷ []) = true
 inTurn (p ∷ q ∷ rest) = let r = inTurn (q ∷ rest) in leb (p .until) (q .from) && r
 
--- the clearance in force at a minute: that of the record that holds then. In a lawful calendar there is at most one (`AtMostOne`); where there is none, which 17
--- refuses, it is not a number.
+-- The clearance in force at a minute: that of the record that holds then. A lawful calendar has at most one (`AtMostOne`). Where there is none, which 17
+-- refuses, this is not a number.
 unfoldable pub clearanceAt : List ℕ → ℕ → Float
 unfolding periodsOf
 clearanceAt t minute = first (holdsAt minute) (record { from = 0; until = 0; clearance = nan }) (periodsOf t) .clearance
@@ -72,7 +76,7 @@ calendarChecks tc tk ta t minute = checkOrder tc tk ta ++ (16, badCalendar t) �
 
 -- ---- the call
 
--- "For a given minute the drawing is made at the clearance in force": refused by the first of these checks that applies, with the counts 0 and 0, else drawn
+-- "For a given minute the drawing is made at the clearance in force": refused by the first of these checks that applies, "counts 0 and 0", else that drawing
 unfoldable pub drawByCalendar : List ℕ → List ℕ → List ℕ → List ℕ → ℕ → List Float → List ℕ → Drawing
 unfolding calendarChecks clearanceAt drawAmended
 drawByCalendar tc tk ta t minute ps ts =
@@ -98,10 +102,10 @@ ByHand = (tc tk ta t : List ℕ) (minute k : ℕ) → InForce t minute k → (ps
 unfoldable pub AtMostOne : Type 0
 AtMostOne = (t : List ℕ) (minute j k : ℕ) → InForce t minute j → InForce t minute k → j ≡ k
 
--- and since each holds for a minute at least, a lawful calendar has no more of them than the year has minutes, though no limit is named.
+-- and as each holds for a minute at least, a lawful calendar has no more of them than the year has minutes. No other limit is on its length.
 unfoldable pub FewPeriods : Type 0
 unfolding badCalendar
-FewPeriods = (t : List ℕ) → T (not (badCalendar t)) → periodCount t ≤ 527040
+FewPeriods = (t : List ℕ) → T (not (badCalendar t)) → periodCount t ≤ yearEnd
 
 -- "An empty calendar is lawful and gives 17 at every minute", to every survey that a check by itself passes
 unfoldable pub EmptyGivesSeventeen : Type 0
