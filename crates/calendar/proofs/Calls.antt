@@ -1,20 +1,20 @@
 -- The ways that the call goes: refused by the survey, by the calendar, or drawn at the clearance in force.
 -- Assumes nothing.
 use Prim.Native.Nat.{ℕ}
-use mathlib.Core.Path.{_≡_, refl, sym, ap, _∙_, subst}
+use mathlib.Core.Path.{_≡_, refl, sym, ap, _∙_}
 use mathlib.Core.Bool.{Bool, true, false, not, cond, true≢false}
-use mathlib.Core.List.{List, [], _∷_, _++_, append-assoc}
+use mathlib.Core.List.{List, [], _∷_, _++_}
 use native.Mathlib.Omega.{arith}
 use lib.Dec.{T, eqb, eqb→eq}
 use lib.Ieee.{Float}
-use borrow.Author.Tests.{eqb-false, eq-eqb, ne-eqb}
+use borrow.Author.Tests.{eqb-false, ne-eqb}
 use Rattle.base.proofs.Tests.{→true}
 use Rattle.rules.specs.OpenAtBox.{openAtBox}
-use Rattle.rules.specs.Outputs.{inRange, firstOf, tableChecks, soundingCheck, surveyChecks, checks, drawingChecks, Drawing, draw}
+use Rattle.rules.specs.Outputs.{inRange, firstOf, tableChecks, soundingCheck, surveyChecks, checks, drawingChecks, draw}
 use Rattle.rules.specs.Resounding.{amended, amendmentChecks, checkAmended, undrawn, drawAmended, checkOrder, ChecksInOrder}
 use Rattle.rules.specs.Calendar.{clearanceAt, badCalendar, noneHolds, calendarChecks, drawByCalendar}
 use Rattle.octree.proofs.Accepted.{numbered, first-append}
-use Rattle.amendments.proofs.Calls.{tables-numbered, tables-pass, tables-same, called, refused-by-amendments}
+use Rattle.amendments.proofs.Calls.{tables-pass, tables-same, called, refused-by-amendments}
 use Rattle.amendments.proofs.Laws.{checks-in-order}
 use Rattle.drawing.proofs.Outcome.{refused}
 use Rattle.calendar.specs.ReadingAt.{readingAt}

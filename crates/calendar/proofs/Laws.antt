@@ -1,17 +1,15 @@
 -- The laws of request 7: the call is the drawing by hand, at most one record holds, an empty calendar gives 17, and the checks come in their order.
 -- Assumes nothing.
-use Prim.Native.Nat.{ℕ, _%_, _≤_, _<_}
+use Prim.Native.Nat.{ℕ, _%_, _<_}
 use mathlib.Core.Path.{_≡_, refl, sym, ap, _∙_, subst}
-use mathlib.Core.Logic.{_⊎_, inl, inr}
 use mathlib.Core.Bool.{Bool, true, false, not, _&&_, _||_, cond}
 use mathlib.Core.List.{List, [], _∷_, _++_, append-assoc}
 use native.Mathlib.Omega.{arith}
 use lib.Dec.{T, eqb, eqb→eq}
 use lib.ListN.{length, getD}
 use lib.Ieee.{Float, nan}
-use borrow.Author.Tests.{eqb-false, eq-eqb, ne-eqb, not-true}
-use Rattle.base.specs.Lists.{any, all, first, position}
-use Rattle.base.proofs.Tests.{→true, true→, false→, or→, not-both, below}
+use Rattle.base.specs.Lists.{any, all, position}
+use Rattle.base.proofs.Tests.{→true, true→, false→}
 use Rattle.base.proofs.Below.{get-table, length-table, position-at, first-position, any-position}
 use Rattle.rules.specs.OpenAtBox.{openAtBox}
 use Rattle.rules.specs.Outputs.{inRange, firstOf, sliceChecks, tableChecks}

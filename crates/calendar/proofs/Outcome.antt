@@ -4,10 +4,9 @@ use Prim.Native.Nat.{ℕ}
 use mathlib.Core.Path.{_≡_, refl, sym, ap, _∙_, subst}
 use mathlib.Core.Bool.{Bool, true, false, cond}
 use mathlib.Core.List.{List, [], _∷_, _++_}
-use lib.Dec.{eqb, eqb→eq}
+use lib.Dec.{eqb}
 use lib.Ieee.{Float}
 use borrow.Author.Tests.{eqb-false}
-use Rattle.base.proofs.Tests.{→true}
 use Rattle.rules.specs.Outputs.{firstOf, Drawing}
 use Rattle.rules.specs.Closing.{ClosedIn}
 use Rattle.rules.specs.Resounding.{amended, undrawn, drawAmended, checkOrder}

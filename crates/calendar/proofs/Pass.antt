@@ -2,11 +2,10 @@
 -- Assumes nothing.
 use Prim.Native.Nat.{ℕ, _+_, _%_, _≤_, _<_}
 use mathlib.Core.Path.{_≡_, refl, sym, ap, _∙_}
-use mathlib.Core.Logic.{_⊎_, inl, inr}
 use mathlib.Core.Bool.{Bool, true, false, not, _&&_, _||_, cond, true≢false}
 use mathlib.Core.List.{List, [], _∷_}
 use native.Mathlib.Omega.{arith}
-use lib.Dec.{T, eqb}
+use lib.Dec.{T}
 use lib.ListN.{length, drop, drop-of-length-le}
 use borrow.Author.Tests.{eq-eqb, ne-eqb}
 use Rattle.base.specs.Lists.{any, first}
@@ -17,7 +16,7 @@ use Rattle.rules.specs.declared.Period.{Period}
 use Rattle.calendar.specs.ReadingAt.{readingAt}
 use Rattle.calendar.specs.declared.Reading.{Reading}
 use Rattle.calendar.specs.declared.Reading.the-variants.{Refused, Clearance}
-use Rattle.calendar.proofs.Periods.{follows, follow, follow-is, Follows, follows→, holds→, none-yet}
+use Rattle.calendar.proofs.Periods.{follows, follow, follow-is, follows→, holds→, none-yet}
 
 module _ (minute : ℕ) where
   -- what is read with one record more

@@ -1,8 +1,8 @@
 -- What a calendar reads at a minute.
 -- Assumes nothing: these are definitions.
 use Prim.Native.Nat.{ℕ}
-use mathlib.Core.Bool.{Bool, cond}
-use mathlib.Core.List.{List, [], _∷_}
+use mathlib.Core.Bool.{cond}
+use mathlib.Core.List.{List}
 use Rattle.rules.specs.Calendar.{clearanceAt, badCalendar, noneHolds}
 use Rattle.calendar.specs.declared.Reading.{Reading}
 use Rattle.calendar.specs.declared.Reading.the-variants.{Refused, Clearance}

@@ -1,6 +1,5 @@
 -- `calendar::refused` meets its contract: the check of the survey by itself comes first.
-use mathlib.Core.Path.{refl, sym, _∙_}
-use Rattle.calendar.proofs.Calls.{checked, survey-first, own-next}
+use Rattle.calendar.proofs.Calls.{survey-first, own-next}
 use borrow.Author.Needs.{needs}
 use Rattle.calendar.proofs.refused.Statement.{statement}
 use Rattle.calendar.proofs.refused.Tie as tie
