@@ -7,7 +7,10 @@ use Rattle.calendar.proofs.follows.Tie as tie
 returns : tie.Need-returns
 returns c =
     let s = c .before .before .before .before .before in
-    rw (le-leb (s .args .ended) (s .args .p .from) (c .before .before .before .if1 .taken), lt-ltb (s .args .p .from) (s .args .p .until) (c .before .if2 .taken)) refl
+    rw (
+      le-leb (s .args .ended) (s .args .p .from) (c .before .before .before .if1 .taken),
+      lt-ltb (s .args .p .from) (s .args .p .until) (c .before .if2 .taken),
+    ) refl
 
 returns-2 : tie.Need-returns-2
 returns-2 c =

@@ -68,7 +68,8 @@ loop-again c =
     ∙ not-false (c .before .before .before .follows .result) (c .before .before .if2 .left) in
     let held = ap (holdsAt (a .minute)) (sym read) ∙ sym (c .before .holds .ensures) in
     let new : c .if3 .reading ≡ noted (a .minute) (l .reading) (periodAt t (l .k)) = ⊎-elim
-    (λ w. w .1 ∙ noted-now (a .minute) (l .reading) (p .period-at .result) (periodAt t (l .k)) read (held ∙ w .0 .taken)) (λ w. w .1 ∙ noted-not (a .minute) (l .reading) (periodAt t (l .k)) (held ∙ w .0 .left))
+    (λ w. w .1 ∙ noted-now (a .minute) (l .reading) (p .period-at .result) (periodAt t (l .k)) read (held ∙ w .0 .taken))
+    (λ w. w .1 ∙ noted-not (a .minute) (l .reading) (periodAt t (l .k)) (held ∙ w .0 .left))
     (c .if3 .came) in (
       l .inv .0,
       omega (arith, l .inv .0),

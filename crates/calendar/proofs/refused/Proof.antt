@@ -10,7 +10,8 @@ check-requires c κs = search needs
 returns : tie.Need-returns
 returns c =
     let a = c .before .before .before .before .before .args in
-    let e = survey-first (a .cells .now) (a .corners .now) (a .amendments .now) (a .number) (c .before .check .result) (c .before .check .ensures) (c .if1 .taken) in
+    let e = survey-first (a .cells .now) (a .corners .now) (a .amendments .now) (a .number) (c .before .check .result) (c .before .check .ensures)
+    (c .if1 .taken) in
     λ i. record { number = e i; points = 0; triangles = 0 }
 
 returns-2 : tie.Need-returns-2
