@@ -3,7 +3,7 @@
 
 use crate::plain::{in_force, records};
 use crate::random::Random;
-use crate::soundings::unlawful;
+use crate::soundings::overruled;
 use crate::survey::{table, Record};
 use crate::Survey;
 
@@ -71,14 +71,6 @@ fn random_days(random: &mut Random) -> [Vec<u16>; 2] {
         1 => [vec![0], days],
         2 => [days[..3].to_vec(), days[..3].to_vec()],
         _ => [days[..3].to_vec(), days[3..].to_vec()],
-    }
-}
-
-/// A sounding that is not in force: one that is not lawful, or one that is wet or dry at nearly every clearance.
-fn overruled(random: &mut Random, clearance: f32) -> f32 {
-    match random.below(3) {
-        0 => unlawful(random),
-        _ => random.pick(&[1_048_576.0, -1_048_576.0, clearance, clearance.next_up()]),
     }
 }
 

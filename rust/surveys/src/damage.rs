@@ -86,7 +86,8 @@ pub fn corrupted(seed: u64) -> Survey {
     survey
 }
 
-fn corrupt(random: &mut Random, table: &mut Vec<u8>, record: usize) {
+/// Flips a bit, loses bytes, changes a byte or lets two records change places.
+pub(crate) fn corrupt(random: &mut Random, table: &mut Vec<u8>, record: usize) {
     if table.len() < record {
         return;
     }
@@ -132,7 +133,7 @@ fn break_amendment_length(random: &mut Random, amendments: &mut Vec<u8>) {
 }
 
 /// Takes a part of the last record away.
-fn shorten(random: &mut Random, table: &mut Vec<u8>, record: usize) {
+pub(crate) fn shorten(random: &mut Random, table: &mut Vec<u8>, record: usize) {
     table.truncate(table.len() - 1 - random.below(record - 1));
 }
 

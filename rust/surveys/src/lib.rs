@@ -5,6 +5,8 @@
 //! - [`volumes`]: surveys of which the space inside can be said by hand.
 //! - [`generate`]: random lawful surveys, each from one seed.
 //! - [`amendments`]: random days and amendments that leave the soundings in force as they are.
+//! - [`calendars`]: calendars, and random ones asked at a minute, each with the clearance in force or the refusal.
+//! - [`seasons`]: calendars asked at a minute of which the same can be said by hand.
 //! - [`sized`]: surveys of a given number of splits, a kind for each shape that a drawing may be slow on.
 //! - [`damage`]: random damaged surveys, each with the refusal it must meet.
 //! - [`lent`]: what stands in lent slices before a drawing, to see what it touches.
@@ -15,6 +17,7 @@
 //!   closing says" and the space inside, written for the reader and not for speed, and with nothing shared with any drawing.
 
 pub mod amendments;
+pub mod calendars;
 pub mod closing;
 pub mod damage;
 pub mod document;
@@ -27,6 +30,7 @@ pub mod random;
 pub mod references;
 pub mod refusals;
 pub mod resounded;
+pub mod seasons;
 pub mod sized;
 mod soundings;
 pub mod survey;

@@ -1,8 +1,9 @@
-//! Document 01's cells, edges and points, and document 02's records in force, in their own words, for lawful surveys.
-//! Nothing here is fast.
+//! Document 01's cells, edges and points, and document 02's records in force, in their own words, for lawful surveys; and
+//! the records of tables. Nothing here is fast.
 
 use std::collections::{BTreeSet, HashMap};
 
+use crate::calendars::Period;
 use crate::survey::{Cube, Octree, Record};
 use crate::Survey;
 
@@ -185,6 +186,18 @@ pub fn records(table: &[u8]) -> impl Iterator<Item = Record> + '_ {
             place: [number(0), number(2), number(4)],
             sounding: f32::from_le_bytes(record[6..10].try_into().expect("four bytes")),
             day: number(10),
+        }
+    })
+}
+
+/// The records of a calendar.
+pub fn periods(calendar: &[u8]) -> impl Iterator<Item = Period> + '_ {
+    calendar.chunks_exact(Period::BYTES).map(|record| {
+        let four_bytes = |at: usize| record[at..at + 4].try_into().expect("four bytes");
+        Period {
+            from: u32::from_le_bytes(four_bytes(0)),
+            until: u32::from_le_bytes(four_bytes(4)),
+            clearance: f32::from_le_bytes(four_bytes(8)),
         }
     })
 }

@@ -1,9 +1,10 @@
-//! Checks 1 to 8 in the words of document 01, "Outputs and refusals"; checks 12 to 15 in those of document 02, "Basins cut
-//! off by the box", "Water in the pool" and "Resounding a few corners". Nothing here is fast.
+//! Checks 1 to 8 in the words of document 01, "Outputs and refusals"; checks 12 to 17 in those of document 02, "Basins cut
+//! off by the box", "Water in the pool", "Resounding a few corners" and "Clearance by calendar". Nothing here is fast.
 
 use std::collections::BTreeSet;
 
-use crate::plain::{entries, in_force, octree, records};
+use crate::calendars::{Period, YEAR_END};
+use crate::plain::{entries, in_force, octree, periods, records};
 use crate::survey::{on_outer_face, Record, DEEPEST};
 use crate::Survey;
 
@@ -22,6 +23,12 @@ pub const AMENDMENT_TABLE: u32 = 14;
 /// The refusal for an amendment at no cell's corner.
 pub const AMENDMENT_PLACE: u32 = 15;
 
+/// The refusal for a calendar that is not whole records or breaks a rule, given by a drawing by calendar alone.
+pub const CALENDAR: u32 = 16;
+
+/// The refusal for a minute in no record of the calendar, given by a drawing by calendar alone.
+pub const MINUTE: u32 = 17;
+
 /// The first refusal of a drawing that the lent slices have no part in: those of [`ORDER`], then 12; 0 if there is none.
 pub fn of_drawing(survey: &Survey) -> u32 {
     match first(survey) {
@@ -36,6 +43,25 @@ pub fn of_volume(survey: &Survey, reference: [u32; 3]) -> u32 {
         0 if reference.iter().any(|&coordinate| coordinate > 1_024) => REFERENCE,
         number => number,
     }
+}
+
+/// The first refusal of a drawing by calendar that the lent slices have no part in: those of the survey by itself, then 16
+/// and 17, then those of a drawing at the clearance in force; 0 if there is none. The survey's clearance is not looked at.
+pub fn of_drawing_by_calendar(survey: &Survey, calendar: &[u8], minute: u32) -> u32 {
+    match (by_itself(first(survey)), clearance_at(calendar, minute)) {
+        (0, Ok(clearance)) => of_drawing(&survey.clone().at(clearance)),
+        (0, Err(refusal)) => refusal,
+        (refusal, _) => refusal,
+    }
+}
+
+/// The clearance in force at a minute, lawful or not; or the first refusal of 16 and 17 that applies.
+pub fn clearance_at(calendar: &[u8], minute: u32) -> Result<f32, u32> {
+    if breaks_rule_of_calendars(calendar) {
+        return Err(CALENDAR);
+    }
+    let holds = |period: &Period| period.from <= minute && minute < period.until;
+    periods(calendar).find(holds).map(|period| period.clearance).ok_or(MINUTE)
 }
 
 /// The first of the checks in [`ORDER`] that refuses a survey; 0 if none does. An enquiry has no other before 11.
@@ -110,6 +136,17 @@ fn is_open_at_box(survey: &Survey) -> bool {
     in_force(survey).iter().any(|held| on_outer_face(held.record.place) && is_wet(held.record.sounding))
 }
 
-fn out_of_range(number: f32) -> bool {
+fn breaks_rule_of_calendars(calendar: &[u8]) -> bool {
+    let periods: Vec<Period> = periods(calendar).collect();
+    let breaks = |number: usize| {
+        let Period { from, until, .. } = periods[number];
+        let begins_too_early = number > 0 && from < periods[number - 1].until;
+        from >= until || until > YEAR_END || begins_too_early
+    };
+    !calendar.len().is_multiple_of(Period::BYTES) || (0..periods.len()).any(breaks)
+}
+
+/// Whether checks 7 and 8 refuse a sounding or a clearance in force.
+pub fn out_of_range(number: f32) -> bool {
     !number.is_finite() || !(-1_048_576.0..=1_048_576.0).contains(&number)
 }

@@ -151,3 +151,12 @@ pub(crate) fn unlawful(random: &mut Random) -> f32 {
     let sign = (random.bits() as u32) << 31;
     f32::from_bits(random.pick(&bits) | sign)
 }
+
+/// A sounding or a clearance that is not in force: one that is not lawful, an extreme one, or one equal or next to the
+/// clearance that is in force.
+pub(crate) fn overruled(random: &mut Random, clearance: f32) -> f32 {
+    match random.below(3) {
+        0 => unlawful(random),
+        _ => random.pick(&[MOST, -MOST, clearance, clearance.next_up()]),
+    }
+}

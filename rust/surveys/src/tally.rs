@@ -1,9 +1,11 @@
 //! How many surveys of a comparison were drawn, and how many of these are amended: one in which nearly all are refused
-//! shows little.
+//! shows little. And how often calendars of each kind were met.
 
+use std::collections::BTreeMap;
 use std::fmt;
 
 use crate::amendments::some_hold;
+use crate::calendars::Kind;
 use crate::Survey;
 
 /// So few surveys need not show every outcome.
@@ -60,6 +62,26 @@ impl fmt::Display for Tally {
     }
 }
 
+/// How often each kind of calendar was met.
+#[derive(Clone, Debug, Default)]
+pub struct Kinds(BTreeMap<Kind, usize>);
+
+impl Kinds {
+    /// Takes down that one was met.
+    pub fn add(&mut self, kind: Kind) {
+        *self.0.entry(kind).or_default() += 1;
+    }
+
+    /// Says how often each was met, and stops if any was less often than this.
+    pub fn assert_all_met(&self, least: usize, what: &str) {
+        println!("{what}: {:?}", self.0);
+        let is_rare = |kind: &Kind| self.0.get(kind).is_none_or(|&times| times < least);
+        let all = [&Kind::HOLDING[..], &Kind::IN_NONE, &Kind::BROKEN].concat();
+        let rare: Vec<Kind> = all.into_iter().filter(is_rare).collect();
+        assert!(rare.is_empty(), "{what}: {rare:?} less than {least} times");
+    }
+}
+
 #[cfg(test)]
 mod tests {
     use super::*;
@@ -84,5 +106,31 @@ mod tests {
         tally.add_drawn(&resounded::dried(), 0);
         tally.add_open();
         assert_eq!(tally.to_string(), "2 drawn (1 of them empty, 1 amended), 1 refused by 12");
+    }
+
+    fn met(times: usize, but: Kind) -> Kinds {
+        let all = [&Kind::HOLDING[..], &Kind::IN_NONE, &Kind::BROKEN].concat();
+        let mut kinds = Kinds::default();
+        all.into_iter()
+            .flat_map(|kind| vec![kind; times - usize::from(kind == but)])
+            .for_each(|kind| kinds.add(kind));
+        kinds
+    }
+
+    #[test]
+    fn kinds_that_were_met_often_enough_pass() {
+        met(3, Kind::Late).assert_all_met(2, "test");
+    }
+
+    #[test]
+    #[should_panic(expected = "test: [Touching] less than 3 times")]
+    fn a_kind_that_was_met_too_seldom_is_named() {
+        met(3, Kind::Touching).assert_all_met(3, "test");
+    }
+
+    #[test]
+    #[should_panic(expected = "test: [Late] less than 1 times")]
+    fn a_kind_that_was_never_met_is_named() {
+        met(1, Kind::Late).assert_all_met(1, "test");
     }
 }
