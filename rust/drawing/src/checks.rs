@@ -1,5 +1,5 @@
 //! Checks 1 to 8: document 01, "Outputs and refusals". Checks 12 to 15: document 02, "Basins cut off by the box", "Water in
-//! the pool" and "Resounding a few corners".
+//! the pool" and "Resounding a few corners". Checks 16 and 17 are those of a calendar.
 
 use crate::amendments::amend;
 use crate::refusal::Refusal;
@@ -51,7 +51,7 @@ pub(crate) fn reference(point: [u32; 3]) -> Result<(), Refusal> {
     refuse_unless(in_box, Refusal::Reference)
 }
 
-fn refuse_unless(lawful: bool, refusal: Refusal) -> Result<(), Refusal> {
+pub(crate) fn refuse_unless(lawful: bool, refusal: Refusal) -> Result<(), Refusal> {
     if lawful {
         Ok(())
     } else {

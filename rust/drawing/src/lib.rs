@@ -5,11 +5,12 @@
 //! At a given clearance the surface between wet and dry corners is drawn as points on the octree's edges and
 //! triangles between them. The method is that of document 003: edge-trees over an arbitrary octree.
 //!
-//! The modules follow the way of the data: [`check`] reads a survey and amends it; edge-trees are built over its cells;
-//! crossing points are numbered on them; face steps and twin steps make the loops of each leaf; loops are cut
-//! into triangles; and the space inside these is reckoned.
+//! The modules follow the way of the data: [`check`] reads a survey and amends it; a calendar may say at which clearance it
+//! is drawn; edge-trees are built over its cells; crossing points are numbered on them; face steps and twin steps make the
+//! loops of each leaf; loops are cut into triangles; and the space inside these is reckoned.
 
 mod amendments;
+mod calendar;
 mod checks;
 mod crossings;
 mod edges;
@@ -97,7 +98,25 @@ pub fn enquire(
 /// Points take three elements each, triangles three each; elements past the last are untouched. A refusal
 /// (those of [`check`], then 8, 12, 9 and 10) touches neither slice.
 pub fn draw(survey: Survey, clearance: f32, points: &mut [f32], triangles: &mut [u32]) -> Drawn {
-    match outputs::drawing(survey, clearance) {
+    write_down(outputs::drawing(survey, clearance), points, triangles)
+}
+
+/// Draws the surface into lent slices as [`draw`] does, at the clearance that a calendar has in force at a minute: document
+/// 02, "Clearance by calendar".
+///
+/// The refusals are those of [`check`], then 16, 17, 8, 12, 9 and 10.
+pub fn draw_by_calendar(
+    survey: Survey,
+    calendar: &[u8],
+    minute: u32,
+    points: &mut [f32],
+    triangles: &mut [u32],
+) -> Drawn {
+    write_down(outputs::drawing_by_calendar(survey, calendar, minute), points, triangles)
+}
+
+fn write_down(drawing: Result<Drawing, Refusal>, points: &mut [f32], triangles: &mut [u32]) -> Drawn {
+    match drawing {
         Ok(drawing) => drawing.write(points, triangles),
         Err(refusal) => Drawn::refused(refusal),
     }

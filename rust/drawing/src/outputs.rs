@@ -1,10 +1,12 @@
 //! Points and triangles as they are handed over: document 01, "Outputs and refusals".
 
+use crate::calendar::clearance_at;
 use crate::checks;
 use crate::crossings::Crossings;
 use crate::edges::EdgeTrees;
 use crate::loops::LoopWalk;
 use crate::refusal::Refusal;
+use crate::survey::Lawful;
 use crate::Survey;
 
 /// A drawn surface.
@@ -44,11 +46,22 @@ impl Drawn {
 
 /// Draws a survey at a clearance: every check before those of reference and slices, then all points and all triangles.
 pub(crate) fn drawing(survey: Survey, clearance: f32) -> Result<Drawing, Refusal> {
+    lawful_drawing(&checks::read(survey)?, clearance)
+}
+
+/// Draws a survey at the clearance in force at a minute, as [`drawing`] does. The calendar's checks stand between those of
+/// the survey and that of the clearance.
+pub(crate) fn drawing_by_calendar(survey: Survey, calendar: &[u8], minute: u32) -> Result<Drawing, Refusal> {
     let survey = checks::read(survey)?;
+    lawful_drawing(&survey, clearance_at(calendar, minute)?)
+}
+
+/// Draws a survey that is lawful by itself.
+fn lawful_drawing(survey: &Lawful, clearance: f32) -> Result<Drawing, Refusal> {
     checks::clearance(clearance)?;
-    checks::closed_at_box(&survey, clearance)?;
-    let trees = EdgeTrees::over(&survey);
-    let crossings = Crossings::on(&survey, &trees, clearance);
+    checks::closed_at_box(survey, clearance)?;
+    let trees = EdgeTrees::over(survey);
+    let crossings = Crossings::on(survey, &trees, clearance);
     let points = (0..crossings.count() as u32).flat_map(|point| crossings.place(point)).collect();
     let mut triangles = Vec::new();
     let mut walk = LoopWalk::over(&crossings);

@@ -1,7 +1,8 @@
 //! The refusals of document 01's table and document 02's requests, by name.
 
-/// Why a survey, a clearance, a lent slice, an edge or a reference point is refused. Checks run in rising number, but
-/// for 12 and 13, which stand between 8 and 9, and 14 and 15, which stand between 6 and 7.
+/// Why a survey, a clearance, a calendar, a lent slice, an edge or a reference point is refused. Checks run in rising
+/// number, but for 12 and 13, which stand between 8 and 9, 14 and 15, which stand between 6 and 7, and 16 and 17, which
+/// stand between 7 and 8.
 #[derive(Clone, Copy, Debug, PartialEq, Eq)]
 #[repr(u32)]
 pub(crate) enum Refusal {
@@ -35,6 +36,10 @@ pub(crate) enum Refusal {
     AmendmentBytes = 14,
     /// An amendment is at no cell's corner.
     AmendmentPlace = 15,
+    /// The calendar is not whole records, or breaks a rule of calendars.
+    Calendar = 16,
+    /// The minute is in no record of the calendar.
+    Minute = 17,
 }
 
 impl Refusal {
