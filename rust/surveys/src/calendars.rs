@@ -110,7 +110,7 @@ pub fn holding(seed: u64, clearance: f32) -> Asked {
 /// in force has this clearance or any other.
 pub fn refused(seed: u64, clearance: f32) -> Asked {
     let random = &mut Random::new(seed);
-    match random.below(4) {
+    match random.below(6) {
         0 | 1 => broken(random, clearance),
         2 => beyond(random, clearance),
         _ => {
@@ -166,7 +166,7 @@ fn lawful(random: &mut Random, clearance: f32) -> Asked {
     let asked = &mut stretches[number];
     asked.clearance = asked.clearance.map(|_| clearance);
     let due = asked.clearance.ok_or(MINUTE);
-    let minute = match random.below(4) {
+    let minute = match random.below(3) {
         0 => asked.from,
         1 => asked.until - 1,
         _ => asked.from + random.below((asked.until - asked.from) as usize) as u32,

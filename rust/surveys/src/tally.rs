@@ -75,7 +75,7 @@ impl Kinds {
     /// Says how often each was met, and stops if any was less often than this.
     pub fn assert_all_met(&self, least: usize, what: &str) {
         println!("{what}: {:?}", self.0);
-        let is_rare = |kind: &Kind| self.0.get(kind).is_none_or(|&times| times < least);
+        let is_rare = |kind: &Kind| self.0.get(kind).copied().unwrap_or(0) < least;
         let all = [&Kind::HOLDING[..], &Kind::IN_NONE, &Kind::BROKEN].concat();
         let rare: Vec<Kind> = all.into_iter().filter(is_rare).collect();
         assert!(rare.is_empty(), "{what}: {rare:?} less than {least} times");
