@@ -2,9 +2,9 @@
  * Clearance surfaces over a lock survey: the proved library for C and C++.
  *
  * A survey is a cell table (an octree), a corner table (a sounding at every corner of every cell) and amendments to that (corners sounded again). At a
- * clearance the surface between wet and dry corners is drawn as points on the octree's edges and triangles between them. The calls are those of document
- * 01, the scope document, with what the requests of document 02 add and change; what they return, and what they write, is proved equal to the documents'
- * rules for every input.
+ * clearance, given by hand or by a calendar and a minute, the surface between wet and dry corners is drawn as points on the octree's edges and triangles
+ * between them. The calls are those of document 01, the scope document, with what the requests of document 02 add and change; what they return, and what
+ * they write, is proved equal to the documents' rules for every input.
  *
  * BUILDING
  *
@@ -20,6 +20,7 @@
  *   cell         4 bytes   0 for a leaf, else the record number of the first of eight children in a row
  *   corner      12 bytes   x, y, z (16 bits unsigned each), then the sounding (IEEE 754 binary32), then the number of its day (16 bits unsigned)
  *   amendment   12 bytes   as a corner
+ *   calendar    12 bytes   from, until (minutes of the year, 32 bits unsigned each), then the clearance (IEEE 754 binary32)
  *
  * The box runs from 0 to 1,024 on x, y and z. Cell record 0 is the whole box, of depth 0; a cell of depth 10 is not split. The child in place i (0 to 7)
  * is in the upper half of x if bit 0 of i is set, of y for bit 1, of z for bit 2. If k split records come before a split record, its entry is 1 + 8k and
@@ -44,11 +45,25 @@
  * Corner tables from before amendments have records of 10 bytes, without a day. The command-line tool converts them (clearance convert OLD NEW): all get
  * day 0, so that every amendment beats them.
  *
+ * THE CALENDAR
+ *
+ * Where the clearance differs over the year, between the season, the winter stoppage and flood weeks say, a calendar can be lent in its place, with the
+ * minute to draw for. A record is in force from its first minute, from, up to, not including, its last, until. Minutes are counted from 0, so 1,440 is the
+ * first minute of the second day and 527,040 the end of a year of 366 days.
+ *
+ * Each from is below its until, each until is at most 527,040, and no record begins before the one ahead of it has ended, though it may begin at that very
+ * minute. A calendar in which any record breaks a rule, or which is not whole records, is refused at every minute (16).
+ *
+ * There may be gaps: a minute in no record is refused (17). So is every minute from 527,040 on; it does not start over with another year. An empty calendar
+ * is lawful, and refused so at every minute.
+ *
+ * Only the clearance in force must be lawful (8). That of every other record may be anything, not a number too.
+ *
  * WHAT THE CALLER LENDS
  *
  * A slice passes as a pointer and a number of elements (not bytes). It is lent for the call: nothing of it is kept, and it stays the caller's to free.
  *
- *   - Cell, corner and amendment tables are read only, may lie at any address, and may overlap each other.
+ *   - Cell, corner and amendment tables and calendars are read only, may lie at any address, and may overlap each other.
  *   - Point and triangle slices are aligned to 4 bytes and overlap no other slice.
  *   - A slice of 0 elements may have any pointer, NULL too: it is not followed.
  *   - Nobody else writes to a slice while the call runs.
@@ -62,16 +77,18 @@
  * REFUSALS
  *
  * What can't be drawn is refused by a number, enum clearance_refusal below. Checks run in rising number, but for 12 and 13, which stand between 8 and 9,
- * and 14 and 15, which stand between 6 and 7; the first that applies is returned. A refused call has written nothing. In their order:
+ * 14 and 15, which stand between 6 and 7, and 16 and 17, which stand between 7 and 8; the first that applies is returned. A refused call has written
+ * nothing. In their order:
  *
- *   clearance_check     1 2 3 4 5 6 14 15 7
- *   clearance_enquire   1 2 3 4 5 6 14 15 7 8 11
- *   clearance_draw      1 2 3 4 5 6 14 15 7 8 12 9 10
- *   clearance_volume    1 2 3 4 5 6 14 15 7 8 12 13 9 10
+ *   clearance_check              1 2 3 4 5 6 14 15 7
+ *   clearance_enquire            1 2 3 4 5 6 14 15 7 8 11
+ *   clearance_draw               1 2 3 4 5 6 14 15 7 8 12 9 10
+ *   clearance_draw_by_calendar   1 2 3 4 5 6 14 15 7 16 17 8 12 9 10
+ *   clearance_volume             1 2 3 4 5 6 14 15 7 8 12 13 9 10
  *
  * So a number's size does not tell what it means. A drawing is there to be had with 0, CLEARANCE_POINT_SLICE and CLEARANCE_TRIANGLE_SLICE, and with
  * nothing else: ask for these by name. A program that takes every number from CLEARANCE_POINT_SLICE on for a drawing takes a pool that is open at the
- * box (12), or an amendment at no corner (15), for an empty one.
+ * box (12), an amendment at no corner (15), or a minute in no record (17), for an empty one.
  */
 #ifndef CLEARANCE_H
 #define CLEARANCE_H
@@ -86,7 +103,11 @@ extern "C" {
 /* The size of a corner record, and of an amendment, in bytes. */
 #define CLEARANCE_CORNER_BYTES 12
 
-/* The longest tables that are not refused, in bytes. */
+/* The size of a calendar's record in bytes, and its greatest until. */
+#define CLEARANCE_CALENDAR_BYTES 12
+#define CLEARANCE_YEAR_END 527040
+
+/* The longest tables that are not refused, in bytes. A calendar has no such limit. */
 #define CLEARANCE_MOST_CELL_BYTES 8196
 #define CLEARANCE_MOST_CORNER_BYTES 58464
 #define CLEARANCE_MOST_AMENDMENT_BYTES 12000
@@ -107,7 +128,9 @@ enum clearance_refusal {
     CLEARANCE_OPEN_AT_BOX = 12, /* the pool runs out of the surveyed box (a corner on an outer face is wet) */
     CLEARANCE_REFERENCE = 13, /* a coordinate of the reference point is above 1,024 */
     CLEARANCE_AMENDMENT_TABLE = 14, /* the amendment table is not whole records or over 12,000 bytes */
-    CLEARANCE_AMENDMENT_PLACE = 15 /* an amendment is at no cell's corner */
+    CLEARANCE_AMENDMENT_PLACE = 15, /* an amendment is at no cell's corner */
+    CLEARANCE_CALENDAR = 16, /* the calendar is not whole records or breaks a rule of calendars */
+    CLEARANCE_MINUTE = 17 /* the minute is in no record of the calendar */
 };
 
 /*
@@ -174,6 +197,14 @@ struct clearance_counts {
  */
 struct clearance_counts clearance_draw(const uint8_t *cells, size_t cells_length, const uint8_t *corners, size_t corners_length,
     const uint8_t *amendments, size_t amendments_length, float clearance, float *points, size_t points_length, uint32_t *triangles, size_t triangles_length);
+
+/*
+ * Draws as clearance_draw does at the clearance in force at a minute of a calendar: the result, and the elements of both slices, are those of
+ * clearance_draw at that clearance given by hand. This is proved. A calendar of any length is read once.
+ */
+struct clearance_counts clearance_draw_by_calendar(const uint8_t *cells, size_t cells_length, const uint8_t *corners, size_t corners_length,
+    const uint8_t *amendments, size_t amendments_length, const uint8_t *calendar, size_t calendar_length, uint32_t minute, float *points,
+    size_t points_length, uint32_t *triangles, size_t triangles_length);
 
 /* A point of the box to reckon a volume from, in whole units. */
 struct clearance_reference {

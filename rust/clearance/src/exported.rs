@@ -85,6 +85,22 @@ extern "C" {
         triangles_length: usize,
     ) -> Counts;
 
+    fn clearance_draw_by_calendar(
+        cells: *const u8,
+        cells_length: usize,
+        corners: *const u8,
+        corners_length: usize,
+        amendments: *const u8,
+        amendments_length: usize,
+        calendar: *const u8,
+        calendar_length: usize,
+        minute: u32,
+        points: *mut f32,
+        points_length: usize,
+        triangles: *mut u32,
+        triangles_length: usize,
+    ) -> Counts;
+
     fn clearance_volume(
         cells: *const u8,
         cells_length: usize,
@@ -148,6 +164,33 @@ pub fn draw(
             amendments.as_ptr(),
             amendments.len(),
             clearance,
+            points.as_mut_ptr(),
+            points.len(),
+            triangles.as_mut_ptr(),
+            triangles.len(),
+        )
+    }
+}
+
+pub fn draw_by_calendar(
+    Survey { cells, corners, amendments }: Survey,
+    calendar: &[u8],
+    minute: u32,
+    points: &mut [f32],
+    triangles: &mut [u32],
+) -> Counts {
+    // SAFETY: as for `draw`. The calendar is lent for reading.
+    unsafe {
+        clearance_draw_by_calendar(
+            cells.as_ptr(),
+            cells.len(),
+            corners.as_ptr(),
+            corners.len(),
+            amendments.as_ptr(),
+            amendments.len(),
+            calendar.as_ptr(),
+            calendar.len(),
+            minute,
             points.as_mut_ptr(),
             points.len(),
             triangles.as_mut_ptr(),

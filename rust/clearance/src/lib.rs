@@ -1,10 +1,10 @@
 //! Clearance surfaces over a lock survey: the proved library as safe Rust.
 //!
 //! A [survey](Survey) is a cell table (an octree), a corner table (a sounding at every corner of every cell) and amendments to that, all as bytes. At a
-//! clearance the surface between wet and dry corners is drawn as points on the octree's edges and triangles between them. The calls are those of
-//! document 01, with what the requests of document 02 add and change; what they return, and what they write, is proved equal to the documents' rules
-//! for every input. What can't be drawn is refused by one of the fifteen [refusals](Refusal). What is drawn is closed: between any two points triangles
-//! run one way as often as the other. So the space inside is one number, wherever it is reckoned from.
+//! clearance, given by hand or by a calendar and a minute, the surface between wet and dry corners is drawn as points on the octree's edges and triangles
+//! between them. The calls are those of document 01, with what the requests of document 02 add and change; what they return, and what they write, is
+//! proved equal to the documents' rules for every input. What can't be drawn is refused by one of the seventeen [refusals](Refusal). What is drawn is
+//! closed: between any two points triangles run one way as often as the other. So the space inside is one number, wherever it is reckoned from.
 //!
 //! Nothing is kept between calls and nothing is allocated inside them, so any number of threads may call. A call needs less than 576 KiB of stack.
 //!
@@ -16,7 +16,9 @@
 //!   each axis; the child in place i is in the upper half of x, y and z by bits 0, 1 and 2 of i;
 //! - a corner is 12 bytes: x, y and z (16 bits each), the sounding (binary32) and the number of the day on which it was sounded (16 bits). Corners rise
 //!   by z, then y, then x;
-//! - an amendment is a corner record too: a corner that was sounded again. There may be up to 1,000, in any order, and several for one corner.
+//! - an amendment is a corner record too: a corner that was sounded again. There may be up to 1,000, in any order, and several for one corner;
+//! - a record of a calendar is 12 bytes: its first minute and the minute before which it ends (from and until, 32 bits each, minutes of the year), and the
+//!   clearance in force meanwhile (binary32). [`draw_by_calendar`] says more.
 //!
 //! For each corner the record of the highest day holds. Among equal days an amendment beats the corner table, and a later amendment an earlier one. All
 //! answers are those of the survey so amended.
@@ -178,9 +180,7 @@ pub fn draw(
     points: &mut [f32],
     triangles: &mut [u32],
 ) -> Result<Counts, Refused> {
-    let exported::Counts { number, points, triangles } = exported::draw(survey, clearance, points, triangles);
-    let counts = Counts { points, triangles };
-    passed(number).map(|()| counts).map_err(|refusal| Refused { refusal, counts })
+    counted(exported::draw(survey, clearance, points, triangles))
 }
 
 /// Counts the points and triangles of a drawing without writing it down: how long lent slices must be.
@@ -217,6 +217,87 @@ pub fn count(survey: Survey, clearance: f32) -> Result<Counts, Refusal> {
 /// The first refusal of [`check`], then 8, that applies; else [`Refusal::OpenAtBox`] where a corner on an outer face is wet.
 pub fn draw_to_vec(survey: Survey, clearance: f32) -> Result<Mesh, Refusal> {
     into_vectors(|points, triangles| draw(survey, clearance, points, triangles)).map(|(mesh, _)| mesh)
+}
+
+/// Draws at the clearance in force at a minute of a calendar: the result, and the elements of both slices, are those of [`draw`] at that clearance given by
+/// hand. This is proved.
+///
+/// A record is in force from its first minute, from, up to, not including, its last, until. Each from is below its until, each until is at most 527,040 (the
+/// end of a year of 366 days), and no record begins before the one ahead of it has ended, though it may begin at that very minute. There may be gaps, and no
+/// records at all. Only the clearance in force must be lawful; that of any other record may be anything.
+///
+/// [`draw_by_calendar_to_vec`] draws into vectors of its own.
+///
+/// ```
+/// use clearance::{draw, draw_by_calendar, Refusal, Survey};
+///
+/// fn record(from: u32, until: u32, clearance: f32) -> Vec<u8> {
+///     [from.to_le_bytes(), until.to_le_bytes(), clearance.to_le_bytes()].concat()
+/// }
+///
+/// let cells = std::fs::read("../../examples/twin/cells")?;
+/// let corners = std::fs::read("../../examples/twin/corners")?;
+/// let survey = Survey::new(&cells, &corners);
+/// let (mut points, mut triangles) = ([0.0; 12], [0; 12]);
+///
+/// // From day 100 on a clearance of 0, in the flood week after day 120 of 0.5, then of 0 again until day 300.
+/// let day = |number: u32| 1_440 * (number - 1);
+/// let season = [
+///     record(day(100), day(120), 0.0),
+///     record(day(120), day(127), 0.5),
+///     record(day(127), day(300), 0.0),
+/// ];
+/// let counts = draw_by_calendar(survey, &season.concat(), day(120), &mut points, &mut triangles)?;
+/// assert_eq!((counts.points, points[0]), (4, 192.0));
+/// let by_hand = draw(survey, 0.5, &mut points, &mut triangles)?;
+/// assert_eq!((counts, points[0]), (by_hand, 192.0));
+///
+/// // The minute at which the last record ends is in none.
+/// let refused = draw_by_calendar(survey, &season.concat(), day(300), &mut points, &mut triangles).unwrap_err();
+/// assert_eq!(refused.refusal, Refusal::Minute);
+/// // The flood week begins before the record ahead of it has ended.
+/// let [before, _, after] = season;
+/// let overlapping = [before, record(day(120) - 1, day(127), 0.5), after].concat();
+/// let refused = draw_by_calendar(survey, &overlapping, day(200), &mut points, &mut triangles).unwrap_err();
+/// assert_eq!(refused.refusal, Refusal::Calendar);
+/// # Ok::<(), Box<dyn std::error::Error>>(())
+/// ```
+///
+/// # Errors
+///
+/// The first refusal of [`check`], then 16, 17, 8, 12, 9 and 10, that applies; then neither slice was touched. With [`Refusal::PointSlice`] and
+/// [`Refusal::TriangleSlice`] come the counts that the drawing needs.
+pub fn draw_by_calendar(
+    survey: Survey,
+    calendar: &[u8],
+    minute: u32,
+    points: &mut [f32],
+    triangles: &mut [u32],
+) -> Result<Counts, Refused> {
+    counted(exported::draw_by_calendar(survey, calendar, minute, points, triangles))
+}
+
+/// Draws at the clearance in force at a minute of a calendar, as [`draw_by_calendar`] does, into vectors that are exactly long enough.
+///
+/// ```
+/// use clearance::{draw_by_calendar_to_vec, draw_to_vec, Refusal, Survey};
+///
+/// let cells = std::fs::read("../../examples/twin/cells")?;
+/// let corners = std::fs::read("../../examples/twin/corners")?;
+/// let survey = Survey::new(&cells, &corners);
+/// // A clearance of 0.5 in the first hour of the year.
+/// let calendar = [0u32.to_le_bytes(), 60u32.to_le_bytes(), 0.5f32.to_le_bytes()].concat();
+/// assert_eq!(draw_by_calendar_to_vec(survey, &calendar, 59)?, draw_to_vec(survey, 0.5)?);
+/// assert_eq!(draw_by_calendar_to_vec(survey, &calendar, 60), Err(Refusal::Minute));
+/// # Ok::<(), Box<dyn std::error::Error>>(())
+/// ```
+///
+/// # Errors
+///
+/// The first refusal of [`check`], then 16, 17, 8 and 12, that applies.
+pub fn draw_by_calendar_to_vec(survey: Survey, calendar: &[u8], minute: u32) -> Result<Mesh, Refusal> {
+    into_vectors(|points, triangles| draw_by_calendar(survey, calendar, minute, points, triangles))
+        .map(|(mesh, _)| mesh)
 }
 
 /// Draws as [`draw`] does, with the same counts and the same elements in both slices, and reckons the space inside the surface.
@@ -299,6 +380,12 @@ fn into_vectors<T>(
     };
     let result = call(mesh.points.as_flattened_mut(), mesh.triangles.as_flattened_mut())?;
     Ok((mesh, result))
+}
+
+/// What a drawing returned.
+fn counted(exported::Counts { number, points, triangles }: exported::Counts) -> Result<Counts, Refused> {
+    let counts = Counts { points, triangles };
+    passed(number).map(|()| counts).map_err(|refusal| Refused { refusal, counts })
 }
 
 /// What a returned number says: 0 that nothing is refused.

@@ -2,11 +2,11 @@
 
 use std::fmt;
 
-/// Why a survey, a clearance, a lent slice, an edge or a reference point is refused. Checks run in rising number, but for 12 and 13, which stand between
-/// 8 and 9, and 14 and 15, which stand between 6 and 7; the first that applies is given.
+/// Why a survey, a clearance, a calendar, a lent slice, an edge or a reference point is refused. Checks run in rising number, but for 12 and 13, which
+/// stand between 8 and 9, 14 and 15, which stand between 6 and 7, and 16 and 17, which stand between 7 and 8; the first that applies is given.
 ///
 /// So refusals compare by number and not by the order of checks: only [`PointSlice`](Refusal::PointSlice) and
-/// [`TriangleSlice`](Refusal::TriangleSlice) say that there is a drawing, and of the others that drawing gives 12, 14 and 15 are above both.
+/// [`TriangleSlice`](Refusal::TriangleSlice) say that there is a drawing, and of the others that drawing gives 12 and 14 to 17 are above both.
 ///
 /// ```
 /// use clearance::{Refusal, Survey};
@@ -33,7 +33,7 @@ pub enum Refusal {
     CornerSet = 6,
     /// A sounding in force is not finite or beyond ±1,048,576. One that is overruled may hold anything.
     Sounding = 7,
-    /// The clearance is not finite or beyond ±1,048,576.
+    /// The clearance is not finite or beyond ±1,048,576. Of a calendar's only that in force is looked at.
     Clearance = 8,
     /// The point slice is too short.
     PointSlice = 9,
@@ -50,11 +50,16 @@ pub enum Refusal {
     AmendmentTable = 14,
     /// An amendment is at no cell's corner, whether its day is high enough to hold or not.
     AmendmentPlace = 15,
+    /// The calendar is not whole records (12 bytes each), or some record breaks a rule: its from is not below its until, its until is above 527,040, or it
+    /// begins before the one ahead of it has ended.
+    Calendar = 16,
+    /// The minute is in no record of the calendar. An empty calendar has none for any minute.
+    Minute = 17,
 }
 
 impl Refusal {
     /// All refusals, by rising number.
-    pub const ALL: [Refusal; 15] = [
+    pub const ALL: [Refusal; 17] = [
         Refusal::CellTable,
         Refusal::CornerTable,
         Refusal::CellEntry,
@@ -70,9 +75,11 @@ impl Refusal {
         Refusal::Reference,
         Refusal::AmendmentTable,
         Refusal::AmendmentPlace,
+        Refusal::Calendar,
+        Refusal::Minute,
     ];
 
-    /// The refusal's number in the documents: 1 to 15.
+    /// The refusal's number in the documents: 1 to 17.
     pub const fn number(self) -> u32 {
         self as u32
     }
@@ -108,6 +115,8 @@ impl fmt::Display for Refusal {
             Refusal::Reference => "a coordinate of the reference point is above 1,024",
             Refusal::AmendmentTable => "the amendment table is not whole records or over 12,000 bytes",
             Refusal::AmendmentPlace => "an amendment is at no cell's corner",
+            Refusal::Calendar => "the calendar is not whole records or breaks a rule of calendars",
+            Refusal::Minute => "the minute is in no record of the calendar",
         })
     }
 }

@@ -9,10 +9,10 @@ mod number;
 mod tables;
 
 use clearance::Refusal;
-use comparing::{drawn, large, refused, small};
+use comparing::{assert_same_slices, compiled, large, small, uncompiled};
 use drawing::Drawn;
 use number::number;
-use surveys::lent::{bits, lend, Slices};
+use surveys::lent::{bits, Slices};
 use surveys::plain::Plain;
 use surveys::refusals::{self, OPEN_AT_BOX};
 use surveys::tally::Tally;
@@ -21,20 +21,16 @@ use tables::{independent, proved};
 
 /// Draws with both drawings into slices of these lengths; result and slices must be the same bits, and no coordinate −0.
 fn assert_same(survey: &Survey, points: usize, triangles: usize, what: &str) -> Slices<Drawn> {
-    let (result, floats, numbers) = lend(points, triangles, what, |floats, numbers| {
-        let result = clearance::draw(proved(survey), survey.clearance, floats, numbers);
-        let result = result.map_or_else(refused, |counts| drawn(0, counts));
-        (result, result.written())
+    let room = [points, triangles];
+    let drawn = compiled(room, what, |floats, numbers| {
+        clearance::draw(proved(survey), survey.clearance, floats, numbers)
     });
-    let (expected, expected_floats, expected_numbers) = lend(points, triangles, what, |floats, numbers| {
-        let expected = drawing::draw(independent(survey), survey.clearance, floats, numbers);
-        (expected, expected.written())
+    let expected = uncompiled(room, what, |floats, numbers| {
+        drawing::draw(independent(survey), survey.clearance, floats, numbers)
     });
-    assert_eq!(result, expected, "{what}: result");
-    assert!(bits(&floats) == bits(&expected_floats), "{what}: points");
-    assert!(!bits(&floats).contains(&(-0f32).to_bits()), "{what}: a coordinate is -0");
-    assert_eq!(numbers, expected_numbers, "{what}: triangles");
-    (result, floats, numbers)
+    assert_same_slices(&drawn, &expected, what);
+    assert!(!bits(&drawn.1).contains(&(-0f32).to_bits()), "{what}: a coordinate is -0");
+    drawn
 }
 
 /// What was seen of many surveys.

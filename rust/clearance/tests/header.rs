@@ -41,7 +41,7 @@ fn the_header_has_the_ends() {
 #[test]
 fn numbers_and_refusals_are_one_to_one() {
     let numbers = Refusal::ALL.map(Refusal::number);
-    assert_eq!(numbers, [1, 2, 3, 4, 5, 6, 7, 8, 9, 10, 11, 12, 13, 14, 15]);
+    assert_eq!(numbers, [1, 2, 3, 4, 5, 6, 7, 8, 9, 10, 11, 12, 13, 14, 15, 16, 17]);
     assert_eq!(numbers.map(Refusal::from_number), Refusal::ALL.map(Some));
-    assert_eq!([0, 16, u32::MAX].map(Refusal::from_number), [None; 3]);
+    assert_eq!([0, 18, u32::MAX].map(Refusal::from_number), [None; 3]);
 }

@@ -8,7 +8,7 @@ mod number;
 mod tables;
 
 use clearance::{Counts, Mesh};
-use comparing::{drawn, large, refused, small};
+use comparing::{assert_same_slices, drawn, large, refused, small};
 use drawing::{Drawn, Water};
 use number::number;
 use surveys::lent::{bits, lend, Slices};
@@ -27,19 +27,17 @@ const ROOMS: [[usize; 2]; 4] = [[64, 64], [0, 64], [64, 0], [0, 0]];
 fn assert_same(survey: &Survey, reference: [u32; 3], room: [usize; 2], what: &str) -> Slices<Water> {
     let clearance = survey.clearance;
     let what = &format!("{what}, from {reference:?}");
-    let (result, floats, numbers) = lend(room[0], room[1], what, |floats, numbers| {
+    let reckoned = lend(room[0], room[1], what, |floats, numbers| {
         let result = clearance::volume(proved(survey), clearance, reference, floats, numbers);
         let result = result.map_or_else(without_volume, with_volume);
         (result, result.drawn.written())
     });
-    let (expected, expected_floats, expected_numbers) = lend(room[0], room[1], what, |floats, numbers| {
+    let expected = lend(room[0], room[1], what, |floats, numbers| {
         let expected = drawing::volume(independent(survey), clearance, reference, floats, numbers);
         (expected, expected.drawn.written())
     });
-    assert_eq!(result, expected, "{what}: result");
-    assert!(bits(&floats) == bits(&expected_floats), "{what}: points");
-    assert_eq!(numbers, expected_numbers, "{what}: triangles");
-    (result, floats, numbers)
+    assert_same_slices(&reckoned, &expected, what);
+    reckoned
 }
 
 /// A result as the independent drawing returns it.

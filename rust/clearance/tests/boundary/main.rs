@@ -8,19 +8,19 @@ mod number;
 mod stack;
 #[path = "../tables/mod.rs"]
 mod tables;
+mod trespass;
 
 use std::collections::BTreeSet;
 use std::ops::{Deref, DerefMut};
-use std::os::unix::process::ExitStatusExt;
-use std::process::{Command, ExitStatus};
 
 use clearance::{Counts, Edge, Refusal, Refused, Water};
 use guarded::{Guarded, Side};
 use number::number;
+use surveys::calendars::{self, Asked, Kind};
 use surveys::lent::{self, bits, Slices};
 use surveys::plain::{self, Plain};
 use surveys::refusals::{self, OPEN_AT_BOX};
-use surveys::tally::Tally;
+use surveys::tally::{Kinds, Tally};
 use surveys::{damage, document, generate, water, Survey};
 
 /// Where slices lie.
@@ -48,6 +48,21 @@ impl Lender {
     }
 }
 
+/// A calendar that a lender holds, to be asked at a minute.
+struct Dated {
+    calendar: Box<dyn Deref<Target = [u8]>>,
+    minute: u32,
+    /// The clearance in force, or the refusal.
+    due: Result<f32, u32>,
+    kind: Kind,
+}
+
+impl Dated {
+    fn new(lender: Lender, Asked { calendar, minute, due, kind }: Asked) -> Dated {
+        Dated { calendar: lender.table(&calendar), minute, due, kind }
+    }
+}
+
 /// A survey whose tables a lender holds.
 struct Lent<'a> {
     lender: Lender,
@@ -55,6 +70,9 @@ struct Lent<'a> {
     corners: Box<dyn Deref<Target = [u8]>>,
     amendments: Box<dyn Deref<Target = [u8]>>,
     clearance: f32,
+    /// A calendar that has this clearance in force, and one that is refused.
+    holding: Dated,
+    refused: Dated,
     what: &'a str,
 }
 
@@ -88,12 +106,41 @@ impl Lent<'_> {
         })
     }
 
-    /// Draws into slices of these lengths, and reckons the space inside with others alike: result and elements must be the same.
+    /// Draws by a calendar into slices of these lengths.
+    fn draw_by_calendar(
+        &self,
+        dated: &Dated,
+        points: usize,
+        triangles: usize,
+    ) -> Slices<Result<Counts, Refused>> {
+        self.lend(points, triangles, |floats, numbers| {
+            clearance::draw_by_calendar(self.tables(), &dated.calendar, dated.minute, floats, numbers)
+        })
+    }
+
+    /// By the calendar that has the clearance in force the result and the elements are those that are due; by the other it is refused, unless the survey
+    /// by itself is.
+    fn assert_by_calendar(&self, due: Result<Counts, Refused>, floats: &[f32], numbers: &[u32]) {
+        let what = self.what;
+        let (points, triangles) = (floats.len(), numbers.len());
+        let (result, same_floats, same_numbers) = self.draw_by_calendar(&self.holding, points, triangles);
+        assert_eq!(result, due, "{what}: by calendar");
+        let same = bits(&same_floats) == bits(floats) && same_numbers == numbers;
+        assert!(same, "{what}: slices by calendar");
+        let (refused, ..) = self.draw_by_calendar(&self.refused, points, triangles);
+        let own = clearance::check(self.tables());
+        let expected =
+            own.map_or_else(Refusal::number, |()| self.refused.due.expect_err("a refused calendar"));
+        assert_eq!(number(refused), expected, "{what}: by a calendar that is refused");
+    }
+
+    /// Draws into slices of these lengths, by hand and by calendar, and reckons the space inside with others alike: result and elements must be the same.
     fn draw(&self, points: usize, triangles: usize) -> (Result<Counts, Refused>, Vec<f32>) {
         let what = self.what;
         let (result, floats, numbers) = self.lend(points, triangles, |floats, numbers| {
             clearance::draw(self.tables(), self.clearance, floats, numbers)
         });
+        self.assert_by_calendar(result, &floats, &numbers);
         let (reckoned, same_floats, same_numbers) = self.reckon([1_024, 0, 512], points, triangles);
         assert_eq!(reckoned.map(|water| water.counts), result, "{what}: volume");
         assert!(
@@ -170,14 +217,19 @@ struct Seen {
     points: usize,
     /// Enquiries that met a crossing edge.
     crossings: usize,
+    /// The kinds of calendars that it was drawn by.
+    kinds: [Kind; 2],
 }
 
-/// Makes all calls with slices that a lender lends.
-fn look(survey: &Survey, lender: Lender, what: &str) -> Seen {
+/// Makes all calls with slices that a lender lends, by the calendars of this seed.
+fn look(survey: &Survey, lender: Lender, seed: u64, what: &str) -> Seen {
     let Survey { cells, corners, amendments, clearance } = survey;
     let [cells, corners, amendments] = [cells, corners, amendments].map(|table| lender.table(table));
-    let what = &format!("{lender:?}, {what}");
-    let lent = Lent { lender, cells, corners, amendments, clearance: *clearance, what };
+    let what = &format!("{lender:?}, {what}, calendars of seed {seed}");
+    let holding = Dated::new(lender, calendars::holding(seed, *clearance));
+    let refused = Dated::new(lender, calendars::refused(seed, *clearance));
+    let kinds = [holding.kind, refused.kind];
+    let lent = Lent { lender, cells, corners, amendments, clearance: *clearance, holding, refused, what };
     let refusal = refusals::of_drawing(survey);
     let check = number(clearance::check(lent.tables()));
     assert_eq!(check, refusals::by_itself(refusal), "{what}: check");
@@ -190,26 +242,27 @@ fn look(survey: &Survey, lender: Lender, what: &str) -> Seen {
         }
         _ => {
             lent.assert_refused(refusal);
-            return Seen { refusal, points: 0, crossings: 0 };
+            return Seen { refusal, points: 0, crossings: 0, kinds };
         }
     };
-    Seen { refusal, points: points.len() / 3, crossings: lent.assert_answered(&points) }
+    Seen { refusal, points: points.len() / 3, crossings: lent.assert_answered(&points), kinds }
 }
 
-/// Lawful surveys: by far most are drawn, and the enquiry meets crossing edges.
+/// Lawful surveys: by far most are drawn, the enquiry meets crossing edges, and calendars are of every kind.
 fn assert_lawful_within(lender: Lender, surveys: u64) {
-    let mut tally = Tally::default();
-    let mut crossings = 0;
-    for (what, survey) in generate::named("mixed", 0..surveys, generate::mixed) {
-        let seen = look(&survey, lender, &what);
+    let (mut tally, mut kinds, mut crossings) = (Tally::default(), Kinds::default(), 0);
+    for (seed, (what, survey)) in (0..).zip(generate::named("mixed", 0..surveys, generate::mixed)) {
+        let seen = look(&survey, lender, seed, &what);
         match seen.refusal {
             0 => tally.add_drawn(&survey, seen.points),
             OPEN_AT_BOX => tally.add_open(),
             refusal => panic!("{what}: refusal {refusal}"),
         }
         crossings += seen.crossings;
+        seen.kinds.into_iter().for_each(|kind| kinds.add(kind));
     }
     tally.assert_most_drawn(&format!("{lender:?}"));
+    kinds.assert_all_met(surveys as usize / 50, &format!("{lender:?}"));
     assert!(crossings as u64 >= surveys / 10, "{crossings} crossing edges");
 }
 
@@ -219,8 +272,9 @@ fn assert_others_within(lender: Lender, surveys: u64) {
     let long_loop = generate::named("long loop", 0..1, generate::long_loop);
     let damaged = generate::named("damaged", 0..surveys, |seed| damage::damaged(seed).survey);
     let corrupted = generate::named("corrupted", 0..surveys, damage::corrupted);
-    let others = examples.chain(long_loop).chain(damaged).chain(corrupted);
-    let met: BTreeSet<u32> = others.map(|(what, survey)| look(&survey, lender, &what).refusal).collect();
+    let others = (0..).zip(examples.chain(long_loop).chain(damaged).chain(corrupted));
+    let met: BTreeSet<u32> =
+        others.map(|(seed, (what, survey))| look(&survey, lender, seed, &what).refusal).collect();
     let due: BTreeSet<u32> = refusals::ORDER.into_iter().chain([0, OPEN_AT_BOX]).collect();
     assert!(surveys < 100 || met == due, "refusals met: {met:?}");
 }
@@ -246,66 +300,16 @@ fn slices_before_an_inaccessible_page() {
     assert_all_within(Lender::Page(Side::After));
 }
 
-/// Set to the name of a trespass, for the process that commits it.
-const TRESPASS: &str = "CLEARANCE_TRESPASS";
-
-/// Leaves what was lent. This must end the process by a signal, or the tests above show nothing.
-fn commit(trespass: &str) {
-    if trespass == "use more stack" {
-        return stack::use_more();
-    }
+/// A calendar may lie at any address.
+#[test]
+fn calendars_at_odd_addresses() {
     let survey = document::twin();
     let tables = clearance::Survey::new(&survey.cells, &survey.corners);
-    let side = if trespass == "read before" { Side::Before } else { Side::After };
-    // The last day, which need not be read, and a part of the last sounding are missing.
-    let [length, lent] = [survey.corners.len(), survey.corners.len() - 3];
-    let short = Guarded::new(&survey.corners[..lent], side).sealed();
-    let first = short.first();
-    // SAFETY: unsound on purpose. Each leaves its slice by one byte or more, or writes to what is for reading only.
-    unsafe {
-        let _ = match trespass {
-            "read before" => u32::from(first.sub(1).read_volatile()),
-            "read after" => u32::from(first.add(lent).read_volatile()),
-            "write to a table" => {
-                first.cast_mut().write_volatile(0);
-                0
-            }
-            "lend more corners than there are" => {
-                let corners = std::slice::from_raw_parts(first, length);
-                number(clearance::check(clearance::Survey { corners, ..tables }))
-            }
-            "lend more amendments than there are" => {
-                let amendments = std::slice::from_raw_parts(first, length);
-                number(clearance::check(clearance::Survey { amendments, ..tables }))
-            }
-            _ => panic!("no such trespass"),
-        };
+    let by_hand = clearance::draw_to_vec(tables, 0.0);
+    for (seed, offset) in (0..200).flat_map(|seed| (0..16).map(move |offset| (seed, offset))) {
+        let Asked { calendar, minute, .. } = calendars::holding(seed, 0.0);
+        let moved = [&vec![0xff; offset][..], &calendar].concat();
+        let drawn = clearance::draw_by_calendar_to_vec(tables, &moved[offset..], minute);
+        assert_eq!(drawn, by_hand, "calendar of seed {seed}, {offset} bytes on");
     }
-}
-
-fn after_committing(trespass: &str) -> ExitStatus {
-    let this_test = std::env::current_exe().expect("this test");
-    let mut child = Command::new(this_test);
-    child.args(["--exact", "leaving_what_was_lent_ends_the_process"]).env(TRESPASS, trespass);
-    child.output().expect("a child process").status
-}
-
-#[test]
-fn leaving_what_was_lent_ends_the_process() {
-    if let Ok(trespass) = std::env::var(TRESPASS) {
-        return commit(&trespass);
-    }
-    const SIGABRT: i32 = 6; // from Rust's own handler, which knows the page below a stack
-    const SIGSEGV: i32 = 11;
-    let trespasses = [
-        "read before",
-        "read after",
-        "write to a table",
-        "lend more corners than there are",
-        "lend more amendments than there are",
-    ];
-    for trespass in trespasses {
-        assert_eq!(after_committing(trespass).signal(), Some(SIGSEGV), "{trespass}");
-    }
-    assert_eq!(after_committing("use more stack").signal(), Some(SIGABRT));
 }

@@ -1,6 +1,7 @@
 //! The stack that a call needs: all calls on the largest surveys, in a thread with no more stack than the header says.
 
 use surveys::amendments::{self, with_amendments};
+use surveys::calendars::{of_records, Asked};
 use surveys::random::Random;
 use surveys::sized::{self, Kind};
 use surveys::{plain, Survey};
@@ -34,7 +35,7 @@ fn largest() -> Vec<Survey> {
     kinds.into_iter().chain(most_triangles).collect()
 }
 
-/// Makes every call: the check, enquiries about edges of cells from all over the table, the drawing, the volume.
+/// Makes every call: the check, enquiries about edges of cells from all over the table, the drawing, by hand and by calendar, the volume.
 fn make_calls(survey: &Survey) {
     let (tables, clearance) = (proved(survey), survey.clearance);
     clearance::check(tables).expect("checked");
@@ -42,7 +43,9 @@ fn make_calls(survey: &Survey) {
         let (low, length) = (cube.low.map(u32::from), u32::from(cube.size));
         clearance::enquire(tables, clearance, number as u32 % 3, low, length).expect("answered");
     }
-    clearance::draw_to_vec(tables, clearance).expect("drawn");
+    let mesh = clearance::draw_to_vec(tables, clearance).expect("drawn");
+    let Asked { calendar, minute, .. } = of_records(1_000, clearance);
+    assert_eq!(clearance::draw_by_calendar_to_vec(tables, &calendar, minute), Ok(mesh));
     clearance::volume_to_vec(tables, clearance, [1_024, 0, 512]).expect("reckoned");
 }
 
