@@ -38,6 +38,16 @@ pub fn degrees(name: &'static str, otherwise: &'static str) -> Arg {
     option.value_name("DEGREES").default_value(otherwise).value_parser(finite)
 }
 
+/// An option with a file.
+pub fn file(name: &'static str) -> Arg {
+    Arg::new(name).long(name).value_name("FILE").value_parser(clap::value_parser!(OsString))
+}
+
+/// An option with a whole number, which may be left out.
+pub fn count(name: &'static str) -> Arg {
+    number(name).required(false).long(name).value_name("N")
+}
+
 /// An option with the three coordinates of a place; 0 0 0 if it is left out.
 pub fn place(name: &'static str) -> Arg {
     let option = Arg::new(name).long(name).num_args(3).allow_negative_numbers(true);
@@ -133,7 +143,8 @@ mod tests {
     #[test]
     fn what_does_not_fit_is_named() {
         let pair = [path("NAME").required(false).requires("DIR"), path("DIR").required(false)];
-        let cases: [(&[Arg], &[&str], &str); 15] = [
+        let dated = [file("calendar").requires("minute"), count("minute").requires("calendar")];
+        let cases: [(&[Arg], &[&str], &str); 20] = [
             (&[path("DIR"), path("OUT")], &["here"], "OUT is missing"),
             (&pair, &["here"], "DIR is missing"),
             (&[path("DIR")], &["here", "there"], "one argument too many: there"),
@@ -147,6 +158,15 @@ mod tests {
             (&[place("from")], &["--from", "1", "2", "3", "4"], "one argument too many: 4"),
             (&[place("from")], &["--from", "1", "-2", "3"], "--from: -2 is no number that fits"),
             (&[place("from")], &["--from", "1", "2", "3", "--from", "1", "2", "3"], "--from is there twice"),
+            (&dated, &["--calendar", "here"], "--minute is missing"),
+            (&dated, &["--minute", "3"], "--calendar is missing"),
+            (&dated, &["--calendar"], "--calendar needs FILE"),
+            (&dated, &["--calendar", "here", "--minute", "-3"], "--minute: -3 is no number that fits"),
+            (
+                &dated,
+                &["--calendar", "here", "--minute", "4294967296"],
+                "--minute: 4294967296 is no number that fits",
+            ),
             (&[number("X")], &["-1"], "X: -1 is no number that fits"),
             (&[axis("AXIS")], &["w"], "AXIS: w is no number that fits"),
         ];

@@ -11,12 +11,14 @@ use clearance::{Edge, Mesh, Water};
 use surveys::plain::Plain;
 use surveys::Survey;
 
-use crate::arguments::{axis, degrees, flag, number, path, place, taken, taken_place, words};
+use crate::arguments::{axis, count, degrees, flag, number, path, place, taken, taken_place, words};
+use crate::calendar;
 use crate::convert;
+use crate::drawing::{directory, directory_and_calendar, Subject, DIRECTORY, MINUTE};
 use crate::examples;
 use crate::facts;
 use crate::failure::{refused, Failure};
-use crate::files;
+use crate::files::{self, Reading};
 use crate::formats;
 use crate::picture::{self, Scene, Style};
 use crate::svg;
@@ -35,9 +37,9 @@ impl From<String> for Printed {
 }
 
 /// Names of arguments.
-const DIRECTORY: &str = "DIR";
 const AXIS: &str = "AXIS (x, y, z or 0, 1, 2)";
 const REFERENCE: &str = "reference";
+const FILE: &str = "FILE";
 const OLD: &str = "OLD";
 const NEW: &str = "NEW";
 
@@ -54,6 +56,14 @@ fn directory_alone() -> Vec<Arg> {
     vec![path(DIRECTORY)]
 }
 
+/// The help of a calendar and a minute in place of the clearance.
+macro_rules! calendar_help {
+    () => {
+        "\n--calendar FILE --minute N  draw at the clearance that is in force at this minute of the year, by the calendar in FILE; the\n\
+         \x20                           file clearance is not read then. 16 refuses a calendar that breaks a rule, 17 a minute in no record"
+    };
+}
+
 /// The help of a command that prints the surface in a format.
 macro_rules! mesh_help {
     ($format:literal) => {
@@ -62,12 +72,13 @@ macro_rules! mesh_help {
             $format,
             ". Decimal numbers read back as the same binary32. As a whole the surface\n\
              turns counter-clockwise seen from the dry side; a single triangle may turn the other way. A missing file of cells,\n\
-             corners or clearance is an error."
+             corners or clearance is an error.",
+            calendar_help!()
         )
     };
 }
 
-const COMMANDS: [Command; 10] = [
+const COMMANDS: [Command; 11] = [
     Command {
         name: "check",
         arguments: "DIR",
@@ -81,14 +92,17 @@ const COMMANDS: [Command; 10] = [
     },
     Command {
         name: "draw",
-        arguments: "DIR",
+        arguments: "DIR [--calendar FILE --minute N]",
         summary: "list the points and triangles of the surface",
-        help: "Prints the listing of document 01's drawing program: the counts; a line 'v' for each point with the bits\n\
-               of x, y and z in hexadecimal; a line 't' for each triangle with its point numbers. On refusal prints\n\
-               'refused' and the number, and the words on standard error. There is no limit on points and triangles.\n\
-               A pool that runs out of the surveyed box (a corner on an outer face is wet) is refused by 12, so what is drawn\n\
-               is closed. A missing file counts as empty, as it does for that program.",
-        takes: directory_alone,
+        help: concat!(
+            "Prints the listing of document 01's drawing program: the counts; a line 'v' for each point with the bits\n\
+             of x, y and z in hexadecimal; a line 't' for each triangle with its point numbers. On refusal prints\n\
+             'refused' and the number, and the words on standard error. There is no limit on points and triangles.\n\
+             A pool that runs out of the surveyed box (a corner on an outer face is wet) is refused by 12, so what is drawn\n\
+             is closed. A missing file of DIR counts as empty, as it does for that program.",
+            calendar_help!()
+        ),
+        takes: directory_and_calendar,
         run: draw,
     },
     Command {
@@ -127,38 +141,55 @@ const COMMANDS: [Command; 10] = [
     },
     Command {
         name: "obj",
-        arguments: "DIR",
+        arguments: "DIR [--calendar FILE --minute N]",
         summary: "write the surface as Wavefront OBJ",
         help: mesh_help!("Wavefront OBJ"),
-        takes: directory_alone,
+        takes: directory_and_calendar,
         run: |arguments| mesh(arguments, formats::obj),
     },
     Command {
         name: "ply",
-        arguments: "DIR",
+        arguments: "DIR [--calendar FILE --minute N]",
         summary: "write the surface as PLY (ascii)",
         help: mesh_help!("PLY, ascii 1.0"),
-        takes: directory_alone,
+        takes: directory_and_calendar,
         run: |arguments| mesh(arguments, formats::ply),
     },
     Command {
         name: "render",
-        arguments: "DIR OUT.png|OUT.svg [--turn DEGREES] [--tilt DEGREES] [--edges] [--cells] [--inside] [--near]",
+        arguments: "DIR OUT.png|OUT.svg [--calendar FILE --minute N] [--turn DEGREES] [--tilt DEGREES] [--edges] [--cells] [--inside] [--near]",
         summary: "make a picture of the surface",
-        help: "Writes a picture of the surface and the box; the name's end chooses PNG or SVG. Higher places are lighter.\n\
-               --turn DEGREES  turn about the z axis (30); at 0 one looks along y\n\
-               --tilt DEGREES  look from so far above the horizon (35)\n\
-               --edges         show the edges of triangles\n\
-               --cells         show the edges of the cells; the surface hides those behind it\n\
-               --inside        look into the wet space: leave out the sides towards the viewer\n\
-               --near          let the surface fill the picture, and not the box\n\
-               A missing file of cells, corners or clearance is an error. The picture is written over.",
+        help: concat!(
+            "Writes a picture of the surface and the box; the name's end chooses PNG or SVG. Higher places are lighter.\n\
+             --turn DEGREES  turn about the z axis (30); at 0 one looks along y\n\
+             --tilt DEGREES  look from so far above the horizon (35)\n\
+             --edges         show the edges of triangles\n\
+             --cells         show the edges of the cells; the surface hides those behind it\n\
+             --inside        look into the wet space: leave out the sides towards the viewer\n\
+             --near          let the surface fill the picture, and not the box\n\
+             A missing file of cells, corners or clearance is an error. The picture is written over.",
+            calendar_help!()
+        ),
         takes: || {
-            let looks = [degrees("turn", "30"), degrees("tilt", "35")];
+            let looks = [path("OUT"), degrees("turn", "30"), degrees("tilt", "35")];
             let flags = ["edges", "cells", "inside", "near"].map(flag);
-            [path(DIRECTORY), path("OUT")].into_iter().chain(looks).chain(flags).collect()
+            directory_and_calendar().into_iter().chain(looks).chain(flags).collect()
         },
         run: render,
+    },
+    Command {
+        name: "calendar",
+        arguments: "FILE [--minute N]",
+        summary: "show a calendar in words",
+        help: "Prints 'lawful' and the number of records of the calendar in FILE; then, from the year's first minute to its last, a line\n\
+               for each record with its from, until and clearance, and one for each gap, in which nothing is in force. Minutes are\n\
+               given as day and time of day too; day 1 has the minutes 0 to 1439. A record is in force from its first minute up to, not\n\
+               including, until. A clearance that would be refused when in force, by 8, is marked.\n\
+               --minute N  say last which record and which clearance is in force at this minute, or that none is\n\
+               If a record breaks a rule, or the calendar is not whole records, prints 'refused 16', its words, and which record breaks which\n\
+               rule; of very many the first.",
+        takes: || vec![path(FILE), count(MINUTE)],
+        run: show_calendar,
     },
     Command {
         name: "convert",
@@ -176,8 +207,8 @@ const COMMANDS: [Command; 10] = [
         name: "example",
         arguments: "[NAME DIR]",
         summary: "write an example survey, or list the names",
-        help: "Writes the files cells, corners and clearance of the example NAME, and amendments if it has any, into DIR, which is\n\
-               made if need be. Nothing is written if DIR has one of these four files already. Without arguments, lists the names.",
+        help: "Writes the files cells, corners and clearance of the example NAME, and amendments and a calendar if it has them, into DIR,\n\
+               which is made if need be. Nothing is written if DIR has one of these five files already. Without arguments, lists the names.",
         takes: || vec![path("NAME").required(false).requires(DIRECTORY), path(DIRECTORY).required(false)],
         run: example,
     },
@@ -236,6 +267,7 @@ fn overview() -> String {
          corners were sounded again; without this file there are none. Of several records for a corner that of the highest day holds.\n\
          A corner is wet if its sounding is greater than the clearance; ground exactly at the clearance is dry.\n\
          A survey with a wet corner on an outer face of the box is not drawn; 'check' and 'enquire' still take it.\n\
+         Where clearances change over the year, 'draw', 'obj', 'ply' and 'render' take a calendar and a minute in place of the clearance.\n\
          'clearance COMMAND --help' says more of a command.\n\
          Exit status: 0 if all is well, 1 if something is refused, 2 if the command line or a file is wrong.\n",
         lines.collect::<String>()
@@ -246,25 +278,20 @@ fn command_help(command: &Command) -> String {
     format!("usage: clearance {} {}\n\n{}\n", command.name, command.arguments, command.help)
 }
 
-/// The directory that a command was given.
-fn directory(arguments: &ArgMatches) -> &Path {
-    Path::new(taken::<OsString>(arguments, DIRECTORY))
-}
-
 fn check(arguments: &ArgMatches) -> Result<Printed, Failure> {
-    let [cells, corners, amendments] = files::read_tables(directory(arguments))?;
-    Ok(match clearance::check(clearance::Survey::new(&cells, &corners).amended(&amendments)) {
+    let survey = files::read(directory(arguments), Reading::TABLES)?;
+    Ok(match clearance::check(files::tables(&survey)) {
         Ok(()) => String::from("lawful\n").into(),
         Err(refusal) => Printed { text: refused(refusal) + "\n", status: 1 },
     })
 }
 
 fn draw(arguments: &ArgMatches) -> Result<Printed, Failure> {
-    for path in files::missing(directory(arguments)) {
+    let (subject, missing) = Subject::read_as_program(arguments)?;
+    for path in missing {
         eprintln!("clearance: {} is missing and counts as empty", path.display());
     }
-    let survey = files::read_as_program(directory(arguments))?;
-    Ok(match clearance::draw_to_vec(files::tables(&survey), survey.clearance) {
+    Ok(match subject.drawn() {
         Ok(mesh) => formats::listing(&mesh).into(),
         Err(refusal) => {
             eprintln!("clearance: {}", refused(refusal));
@@ -275,7 +302,7 @@ fn draw(arguments: &ArgMatches) -> Result<Printed, Failure> {
 
 fn enquire(arguments: &ArgMatches) -> Result<Printed, Failure> {
     let [axis, x, y, z, length] = [AXIS, "X", "Y", "Z", "LENGTH"].map(|name| *taken::<u32>(arguments, name));
-    let survey = files::read(directory(arguments))?;
+    let survey = files::read(directory(arguments), Reading::WHOLE)?;
     let edge = clearance::enquire(files::tables(&survey), survey.clearance, axis, [x, y, z], length)?;
     Ok(match edge {
         Edge::Even => String::from("even\n"),
@@ -287,21 +314,17 @@ fn enquire(arguments: &ArgMatches) -> Result<Printed, Failure> {
 }
 
 fn info(arguments: &ArgMatches) -> Result<Printed, Failure> {
-    Ok(facts::facts(&files::read(directory(arguments))?)?.to_string().into())
+    Ok(facts::facts(&files::read(directory(arguments), Reading::WHOLE)?)?.to_string().into())
 }
 
 fn volume(arguments: &ArgMatches) -> Result<Printed, Failure> {
-    let survey = files::read(directory(arguments))?;
+    let survey = files::read(directory(arguments), Reading::WHOLE)?;
     let Water { sixfold, .. } = facts::water(&survey, taken_place(arguments, REFERENCE))?;
     Ok(format!("volume   {}\nsixfold  {sixfold}\n", facts::cubic_units(sixfold)).into())
 }
 
 fn mesh(arguments: &ArgMatches, format: fn(&Mesh) -> String) -> Result<Printed, Failure> {
-    Ok(format(&drawn(&files::read(directory(arguments))?)?).into())
-}
-
-fn drawn(survey: &Survey) -> Result<Mesh, Failure> {
-    Ok(clearance::draw_to_vec(files::tables(survey), survey.clearance)?)
+    Ok(format(&Subject::read(arguments)?.drawn()?).into())
 }
 
 fn render(arguments: &ArgMatches) -> Result<Printed, Failure> {
@@ -315,9 +338,9 @@ fn render(arguments: &ArgMatches) -> Result<Printed, Failure> {
         Some("svg") => |scene| svg::svg(scene).into_bytes(),
         _ => return Err(Failure::Usage(format!("{}: a picture's name ends in .png or .svg", out.display()))),
     };
-    let survey = files::read(directory(arguments))?;
-    let mesh = drawn(&survey)?;
-    let lines = if cells { cell_lines(&survey) } else { Vec::new() };
+    let subject = Subject::read(arguments)?;
+    let mesh = subject.drawn()?;
+    let lines = if cells { cell_lines(&subject.survey) } else { Vec::new() };
     std::fs::write(out, make(&Scene { mesh, lines, style })).map_err(Failure::of_file(out))?;
     Ok(String::new().into())
 }
@@ -329,9 +352,17 @@ fn cell_lines(survey: &Survey) -> Vec<[Vector; 2]> {
     undivided.map(|edge| [edge.low(), edge.high()].map(|end| end.map(f64::from))).collect()
 }
 
+fn show_calendar(arguments: &ArgMatches) -> Result<Printed, Failure> {
+    let calendar = files::read_file(Path::new(taken::<OsString>(arguments, FILE)))?;
+    Ok(match calendar::words(&calendar, arguments.get_one(MINUTE).copied()) {
+        Ok(text) => text.into(),
+        Err(text) => Printed { text, status: 1 },
+    })
+}
+
 fn convert(arguments: &ArgMatches) -> Result<Printed, Failure> {
     let [old, new] = [OLD, NEW].map(|name| Path::new(taken::<OsString>(arguments, name)));
-    let table = std::fs::read(old).map_err(Failure::of_file(old))?;
+    let table = files::read_file(old)?;
     let dated = convert::dated(&table).map_err(|words| Failure::Unfit { path: old.to_path_buf(), words })?;
     files::write_new(new, &dated)?;
     Ok(String::new().into())
@@ -345,6 +376,7 @@ fn example(arguments: &ArgMatches) -> Result<Printed, Failure> {
     let found = name.to_str().and_then(examples::find);
     let unknown =
         || Failure::Usage(format!("no example {}; 'clearance example' lists them", name.to_string_lossy()));
-    files::write(directory(arguments), &(found.ok_or_else(unknown)?.survey)())?;
+    let example = found.ok_or_else(unknown)?;
+    files::write(directory(arguments), &(example.survey)(), &(example.calendar)())?;
     Ok(String::new().into())
 }

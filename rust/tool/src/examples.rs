@@ -1,6 +1,7 @@
 //! Surveys by name: those of document 01, two of ground awash, some with amendments, and basins sounded over octrees of several depths, one of which runs
-//! out of the box.
+//! out of the box and one of which has a calendar.
 
+use surveys::calendars::{self, Period, YEAR_END};
 use surveys::plain::records;
 use surveys::survey::Record;
 use surveys::{document, resounded, Survey};
@@ -18,6 +19,8 @@ pub struct Example {
     pub refusal: u32,
     /// Makes it.
     pub survey: fn() -> Survey,
+    /// Makes the calendar beside it; most have an empty one.
+    pub calendar: fn() -> Vec<u8>,
 }
 
 /// Basins are sounded as finely as the cell table allows.
@@ -56,12 +59,25 @@ fn dredged() -> Survey {
     pool.amended(corners.into_iter().map(resounded).chain([the_day_before]))
 }
 
+/// A year at the weir pool: a season, in which a flood of two weeks asks for more clearance, a stoppage on both sides of it, and winter traffic in the last
+/// month.
+fn seasons() -> Vec<u8> {
+    let midnight = |day: u32| 1_440 * (day - 1);
+    let records = [
+        (midnight(60), midnight(100), 24.0),
+        (midnight(100), midnight(114), 96.0),
+        (midnight(114), midnight(305), 24.0),
+        (midnight(336), YEAR_END, 48.0),
+    ];
+    calendars::table(records.map(|(from, until, clearance)| Period { from, until, clearance }))
+}
+
 const fn drawn(name: &'static str, words: &'static str, survey: fn() -> Survey) -> Example {
-    Example { name, words, refusal: 0, survey }
+    refused(name, words, 0, survey)
 }
 
 const fn refused(name: &'static str, words: &'static str, refusal: u32, survey: fn() -> Survey) -> Example {
-    Example { name, words, refusal, survey }
+    Example { name, words, refusal, survey, calendar: Vec::new }
 }
 
 /// All examples.
@@ -76,6 +92,14 @@ pub const EXAMPLES: &[Example] = &[
         weir_pool().at(96.0)
     }),
     drawn("dredged", "the weir pool with a dozen corners sounded again after dredging", dredged),
+    Example {
+        calendar: seasons,
+        ..drawn(
+            "seasons",
+            "the weir pool with a calendar of its clearances: --calendar DIR/calendar --minute N",
+            weir_pool,
+        )
+    },
     drawn("twin", "document 01's twin survey", document::twin),
     drawn(
         "resounded",

@@ -24,7 +24,7 @@ pub enum Failure {
         /// What is wrong with it.
         words: &'static str,
     },
-    /// The library refused the survey, the clearance, the edge or the reference point.
+    /// The library refused the survey, the clearance, the calendar, the minute, the edge or the reference point.
     Refused(Refusal),
 }
 

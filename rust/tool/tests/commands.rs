@@ -6,8 +6,8 @@ use common::{drawn, printed, root, run, survey, text, Place};
 use surveys::{damage, document, generate};
 
 /// All commands.
-const COMMANDS: [&str; 10] =
-    ["check", "draw", "enquire", "info", "volume", "obj", "ply", "render", "convert", "example"];
+const COMMANDS: [&str; 11] =
+    ["check", "draw", "enquire", "info", "volume", "obj", "ply", "render", "calendar", "convert", "example"];
 
 fn twin() -> String {
     text(&root().join("examples/twin")).to_owned()
@@ -36,7 +36,7 @@ fn draw_lists_more_than_the_drawing_program_lends() {
     let place = Place::new("large");
     let large = (0..).map(generate::interior).find(|survey| drawn(survey).points.len() > 2_048);
     let survey = large.expect("some survey has many points");
-    clearance_tool::files::write(&place.path, &survey).expect("the survey is written");
+    clearance_tool::files::write(&place.path, &survey, &[]).expect("the survey is written");
     let listing = printed(&["draw", text(&place.path)]);
     let mesh = drawn(&survey);
     let counts = format!("{} {}\n", mesh.points.len(), mesh.triangles.len());
@@ -51,7 +51,7 @@ fn draw_refuses_as_the_drawing_program_does() {
     for seed in 0..20 {
         let damaged = damage::damaged(seed);
         let name = seed.to_string();
-        clearance_tool::files::write(&place.path.join(&name), &damaged.survey)
+        clearance_tool::files::write(&place.path.join(&name), &damaged.survey, &[])
             .expect("the survey is written");
         let ran = run(&["draw", &place.below(&name)]);
         assert_eq!((ran.status, ran.out), (1, format!("refused {}\n", damaged.refusal)), "seed {seed}");
@@ -247,7 +247,7 @@ fn help_is_there_for_the_whole_and_for_each_command() {
 fn wrong_command_lines_are_named() {
     let place = Place::new("wrong");
     let picture = place.below("picture.gif");
-    let cases: [(&[&str], &str); 13] = [
+    let cases: [(&[&str], &str); 18] = [
         (&[], "a command is missing"),
         (&["sound"], "unknown command sound"),
         (&["help", "sound"], "unknown command sound"),
@@ -261,6 +261,11 @@ fn wrong_command_lines_are_named() {
             &["volume", "one", "--reference", "0", "0", "4294967296"],
             "--reference: 4294967296 is no number that fits",
         ),
+        (&["draw", "one", "--calendar", "two"], "--minute is missing"),
+        (&["render", "one", "two.svg", "--minute", "0"], "--calendar is missing"),
+        (&["obj", "one", "--calendar", "two", "--minute", "-1"], "--minute: -1 is no number that fits"),
+        (&["calendar"], "FILE is missing"),
+        (&["calendar", "one", "--minute", "4294967296"], "--minute: 4294967296 is no number that fits"),
         (&["convert", "one"], "NEW is missing"),
         (&["render", "one", &picture], "a picture's name ends in .png or .svg"),
         (&["example", "ocean", "one"], "no example ocean"),

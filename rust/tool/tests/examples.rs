@@ -38,7 +38,7 @@ fn every_example_that_is_drawn_closes() {
         assert_eq!(closing::check(&survey, points, triangles), Ok(()), "{}", example.name);
         basins += usize::from(points.len() > 3 * 100);
     }
-    assert_eq!(basins, 5);
+    assert_eq!(basins, 6);
 }
 
 #[test]

@@ -1,0 +1,67 @@
+//! What a command draws: the survey of a directory, at its clearance or by a calendar.
+
+use std::ffi::OsString;
+use std::path::{Path, PathBuf};
+
+use clap::{Arg, ArgMatches};
+use clearance::{Mesh, Refusal};
+use surveys::Survey;
+
+use crate::arguments::{count, file, path, taken};
+use crate::failure::Failure;
+use crate::files::{self, Reading};
+
+/// Names of arguments.
+pub const DIRECTORY: &str = "DIR";
+/// The minute to draw for, or to ask a calendar at.
+pub const MINUTE: &str = "minute";
+const CALENDAR: &str = "calendar";
+
+/// The directory that a command was given.
+pub fn directory(arguments: &ArgMatches) -> &Path {
+    Path::new(taken::<OsString>(arguments, DIRECTORY))
+}
+
+/// What a command takes that draws: a directory, and a calendar with a minute or neither.
+pub fn directory_and_calendar() -> Vec<Arg> {
+    vec![path(DIRECTORY), file(CALENDAR).requires(MINUTE), count(MINUTE).requires(CALENDAR)]
+}
+
+/// A survey, and what says at which clearance it is drawn.
+pub struct Subject {
+    /// The survey. Where there is a calendar, its clearance is not a number.
+    pub survey: Survey,
+    /// A calendar and a minute.
+    dated: Option<(Vec<u8>, u32)>,
+}
+
+impl Subject {
+    /// Reads what a command was given. A missing file is a failure, but for amendments; the file of the clearance is not read where there is a calendar.
+    pub fn read(arguments: &ArgMatches) -> Result<Subject, Failure> {
+        Subject::read_with(arguments, false).map(|(subject, _)| subject)
+    }
+
+    /// Reads what a command was given. A missing file of the directory counts as empty, as it does for the documents' drawing program; gives back those too.
+    pub fn read_as_program(arguments: &ArgMatches) -> Result<(Subject, Vec<PathBuf>), Failure> {
+        Subject::read_with(arguments, true)
+    }
+
+    fn read_with(arguments: &ArgMatches, missing_is_empty: bool) -> Result<(Subject, Vec<PathBuf>), Failure> {
+        let dated = match arguments.get_one::<OsString>(CALENDAR) {
+            Some(calendar) => Some((files::read_file(Path::new(calendar))?, *taken(arguments, MINUTE))),
+            None => None,
+        };
+        let reading = Reading { missing_is_empty, clearance: dated.is_none() };
+        let survey = files::read(directory(arguments), reading)?;
+        Ok((Subject { survey, dated }, files::missing(directory(arguments), reading)))
+    }
+
+    /// Draws it.
+    pub fn drawn(&self) -> Result<Mesh, Refusal> {
+        let tables = files::tables(&self.survey);
+        match &self.dated {
+            Some((calendar, minute)) => clearance::draw_by_calendar_to_vec(tables, calendar, *minute),
+            None => clearance::draw_to_vec(tables, self.survey.clearance),
+        }
+    }
+}
