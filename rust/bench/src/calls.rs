@@ -7,7 +7,7 @@ use crate::subject::Subject;
 use crate::timing::{in_turns, interleaved, ratio, Timing};
 use crate::ways::{Proved, Rust, Way};
 
-/// A call of the documents, on a survey without amendments but for the last.
+/// A call of the documents, on a survey without amendments but for one.
 #[derive(Clone, Copy, Debug)]
 pub enum Call {
     Check,
@@ -16,14 +16,17 @@ pub enum Call {
     Volume,
     /// A drawing with 1,000 amendments.
     Amended,
+    /// A drawing by a calendar of 1,000 records.
+    Calendar,
 }
 
 impl Call {
     /// All calls, in the order in which a row has them.
-    pub const ALL: [Call; 5] = [Call::Check, Call::Enquire, Call::Draw, Call::Volume, Call::Amended];
+    pub const ALL: [Call; 6] =
+        [Call::Check, Call::Enquire, Call::Draw, Call::Volume, Call::Amended, Call::Calendar];
 
     /// The calls that draw and do something more.
-    pub const MORE_THAN_DRAW: [Call; 2] = [Call::Volume, Call::Amended];
+    pub const MORE_THAN_DRAW: [Call; 3] = [Call::Volume, Call::Amended, Call::Calendar];
 }
 
 /// Times a call both ways, in so many rounds.
@@ -46,7 +49,7 @@ pub fn by_draw(call: Call, subject: &mut Subject, rounds: usize) -> f64 {
 
 /// Makes a call once. Enquiries are about one edge after another.
 pub fn make<W: Way>(call: Call, subject: &mut Subject) {
-    let Subject { survey, amended, enquiries, point_slice, triangle_slice } = black_box(subject);
+    let Subject { survey, amended, asked, enquiries, point_slice, triangle_slice } = black_box(subject);
     match call {
         Call::Check => _ = black_box(W::check(survey)),
         Call::Enquire => {
@@ -56,12 +59,13 @@ pub fn make<W: Way>(call: Call, subject: &mut Subject) {
         Call::Draw => _ = black_box(W::draw(survey, point_slice, triangle_slice)),
         Call::Volume => _ = black_box(W::volume(survey, point_slice, triangle_slice)),
         Call::Amended => _ = black_box(W::draw(amended, point_slice, triangle_slice)),
+        Call::Calendar => _ = black_box(W::draw_by_calendar(survey, asked, point_slice, triangle_slice)),
     }
 }
 
-/// Stops if the two ways differ in any answer, or a drawing with amendments from one without: what is timed must be the same work.
+/// Stops if the two ways differ in any answer, or a drawing with amendments or by calendar from one without: what is timed must be the same work.
 pub fn compare(subject: &Subject) {
-    let Subject { survey, amended, enquiries, .. } = subject;
+    let Subject { survey, amended, asked, enquiries, .. } = subject;
     assert_eq!(Proved::check(survey), Rust::check(survey));
     for &enquiry in enquiries {
         assert_eq!(Proved::enquire(survey, enquiry), Rust::enquire(survey, enquiry), "{enquiry:?}");
@@ -70,6 +74,13 @@ pub fn compare(subject: &Subject) {
     assert_eq!(written(subject, |points, triangles| Proved::draw(survey, points, triangles)), drawn);
     assert_eq!(written(subject, |points, triangles| Proved::draw(amended, points, triangles)), drawn);
     assert_eq!(written(subject, |points, triangles| Rust::draw(amended, points, triangles)), drawn);
+    let by_proved = |points: &mut [f32], triangles: &mut [u32]| {
+        Proved::draw_by_calendar(survey, asked, points, triangles)
+    };
+    assert_eq!(written(subject, by_proved), drawn);
+    let by_rust =
+        |points: &mut [f32], triangles: &mut [u32]| Rust::draw_by_calendar(survey, asked, points, triangles);
+    assert_eq!(written(subject, by_rust), drawn);
     let reckoned = written(subject, |points, triangles| Rust::volume(survey, points, triangles));
     assert_eq!(written(subject, |points, triangles| Proved::volume(survey, points, triangles)), reckoned);
 }

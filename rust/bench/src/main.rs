@@ -1,7 +1,7 @@
 //! Times the proved calls against the Rust drawing, on surveys of several kinds and sizes, and prints two tables:
-//! the time of each call, with the proved volume and the proved drawing with 1,000 amendments by the proved drawing
-//! alone, and how the time of a leaf grows with the survey; then the highest of these ratios, and how the proved drawing
-//! of each kind grows. The exit status is 1 if one grows too fast.
+//! the time of each call, with the proved volume, the proved drawing with 1,000 amendments and that by a calendar of 1,000
+//! records by the proved drawing alone, and how the time of a leaf grows with the survey; then the highest of these ratios,
+//! and how the proved drawing of each kind grows. The exit status is 1 if one grows too fast.
 //!
 //!     cargo run --release -p bench [ROUNDS]
 //!

@@ -1,6 +1,7 @@
 //! A survey to time calls on, with the slices lent to drawing and the edges to enquire about.
 
 use surveys::amendments::{self, with_amendments};
+use surveys::calendars::{of_records, Asked};
 use surveys::plain::octree;
 use surveys::random::Random;
 use surveys::Survey;
@@ -10,6 +11,9 @@ use crate::SEED;
 
 /// How many edges are enquired about in turn.
 const ENQUIRIES: usize = 16;
+
+/// How many records the calendar has.
+const RECORDS: u32 = 1_000;
 
 /// An edge to enquire about.
 #[derive(Clone, Copy, Debug)]
@@ -27,6 +31,8 @@ pub struct Subject {
     pub survey: Survey,
     /// The same survey with as many amendments as there may be: its drawing is the same.
     pub amended: Survey,
+    /// A calendar that has the survey's clearance in force at a minute: the drawing by it is the same.
+    pub asked: Asked,
     pub enquiries: Vec<Enquiry>,
     pub point_slice: Vec<f32>,
     pub triangle_slice: Vec<u32>,
@@ -40,6 +46,7 @@ impl Subject {
         Subject {
             enquiries: enquiries(&survey),
             amended: with_amendments(&mut Random::new(SEED), &survey, amendments::MOST),
+            asked: of_records(RECORDS, survey.clearance),
             survey,
             point_slice: vec![0.0; points.len()],
             triangle_slice: vec![0; triangles.len()],

@@ -27,7 +27,7 @@ pub fn print_times(rows: &[Row]) {
     );
     print!("{:9} {:>6} {:>6} {:>6} {:>9}", "kind", "splits", "leaves", "points", "triangles");
     Call::ALL.into_iter().for_each(|call| print!(" | {:>26}", call_name(call)));
-    Call::MORE_THAN_DRAW.into_iter().for_each(|call| print!(" | {:>7} / draw", call_name(call)));
+    Call::MORE_THAN_DRAW.into_iter().for_each(|call| print!(" | {:>8} / draw", call_name(call)));
     println!();
     for row in rows {
         print!("{:9} {:6} {:6}", kind_name(row.kind), row.splits, row.leaves);
@@ -35,7 +35,7 @@ pub fn print_times(rows: &[Row]) {
         for Timing { proved, rust, ratio } in row.times {
             print!(" | {:9.2} {:9.2} {ratio:6.2}", proved / 1e3, rust / 1e3);
         }
-        row.by_draw.into_iter().for_each(|ratio| print!(" | {ratio:14.2}"));
+        row.by_draw.into_iter().for_each(|ratio| print!(" | {ratio:15.2}"));
         println!();
     }
 }
@@ -124,6 +124,7 @@ pub fn call_name(call: Call) -> &'static str {
         Call::Draw => "draw",
         Call::Volume => "volume",
         Call::Amended => "amended",
+        Call::Calendar => "calendar",
     }
 }
 
@@ -134,7 +135,8 @@ mod tests {
     /// A row in which every call has the ratio, and twice that by the drawing.
     fn row(kind: Kind, splits: usize, ratio: f64) -> Row {
         let times = Call::ALL.map(|_| Timing { proved: ratio, rust: 1.0, ratio });
-        Row { kind, splits, leaves: 1, points: 0, triangles: 0, times, by_draw: [2.0 * ratio; 2] }
+        let by_draw = Call::MORE_THAN_DRAW.map(|_| 2.0 * ratio);
+        Row { kind, splits, leaves: 1, points: 0, triangles: 0, times, by_draw }
     }
 
     #[test]

@@ -1,6 +1,7 @@
 //! The two makers of the documents' calls, with answers that can be compared.
 
 use clearance::{Refusal, Refused, Water};
+use surveys::calendars::Asked;
 use surveys::Survey;
 
 use crate::subject::Enquiry;
@@ -22,6 +23,8 @@ pub trait Way {
     fn enquire(survey: &Survey, enquiry: Enquiry) -> Answer;
     /// Draws into lent slices.
     fn draw(survey: &Survey, points: &mut [f32], triangles: &mut [u32]) -> Counts;
+    /// Draws into lent slices by a calendar.
+    fn draw_by_calendar(survey: &Survey, asked: &Asked, points: &mut [f32], triangles: &mut [u32]) -> Counts;
     /// Draws into lent slices, and reckons six times the volume.
     fn volume(survey: &Survey, points: &mut [f32], triangles: &mut [u32]) -> (Counts, i128);
 }
@@ -45,10 +48,12 @@ impl Way for Proved {
     }
 
     fn draw(survey: &Survey, points: &mut [f32], triangles: &mut [u32]) -> Counts {
-        match clearance::draw(proved(survey), survey.clearance, points, triangles) {
-            Ok(counts) => [0, counts.points, counts.triangles],
-            Err(refused) => refused_counts(refused),
-        }
+        drawn(clearance::draw(proved(survey), survey.clearance, points, triangles))
+    }
+
+    fn draw_by_calendar(survey: &Survey, asked: &Asked, points: &mut [f32], triangles: &mut [u32]) -> Counts {
+        let Asked { calendar, minute, .. } = asked;
+        drawn(clearance::draw_by_calendar(proved(survey), calendar, *minute, points, triangles))
     }
 
     fn volume(survey: &Survey, points: &mut [f32], triangles: &mut [u32]) -> (Counts, i128) {
@@ -62,6 +67,10 @@ impl Way for Proved {
 /// The tables of a survey for the proved library.
 fn proved(Survey { cells, corners, amendments, .. }: &Survey) -> clearance::Survey<'_> {
     clearance::Survey { cells, corners, amendments }
+}
+
+fn drawn(outcome: Result<clearance::Counts, Refused>) -> Counts {
+    outcome.map_or_else(refused_counts, |counts| [0, counts.points, counts.triangles])
 }
 
 fn refused_counts(Refused { refusal, counts }: Refused) -> Counts {
@@ -87,6 +96,11 @@ impl Way for Rust {
 
     fn draw(survey: &Survey, points: &mut [f32], triangles: &mut [u32]) -> Counts {
         drawn_counts(drawing::draw(rust(survey), survey.clearance, points, triangles))
+    }
+
+    fn draw_by_calendar(survey: &Survey, asked: &Asked, points: &mut [f32], triangles: &mut [u32]) -> Counts {
+        let Asked { calendar, minute, .. } = asked;
+        drawn_counts(drawing::draw_by_calendar(rust(survey), calendar, *minute, points, triangles))
     }
 
     fn volume(survey: &Survey, points: &mut [f32], triangles: &mut [u32]) -> (Counts, i128) {
