@@ -11,6 +11,8 @@
 #include "slices.h"
 #include "surveys.h"
 
+enum { ONE = CLEARANCE_CALENDAR_BYTES, THREE = 3 * ONE };
+
 /* A calendar to lend. */
 struct calendar {
     uint8_t *records;
@@ -34,9 +36,9 @@ static void put_number(uint8_t *bytes, uint32_t number)
 /* The first so many bytes of a calendar of three records. The caller frees it. */
 static struct calendar calendar_of(const struct period periods[3], size_t length)
 {
-    uint8_t whole[3 * CLEARANCE_CALENDAR_BYTES];
+    uint8_t whole[THREE];
     for (unsigned n = 0; n < 3; n++) {
-        uint8_t *record = whole + CLEARANCE_CALENDAR_BYTES * n;
+        uint8_t *record = whole + ONE * n;
         put_number(record, periods[n].from);
         put_number(record + 4, periods[n].until);
         memcpy(record + 8, &periods[n].clearance, sizeof periods[n].clearance);
@@ -88,7 +90,7 @@ static void minutes(struct survey survey, float not_a_number)
     const struct period periods[3] = {{100, 200, 0.0f}, {200, 300, not_a_number}, {400, CLEARANCE_YEAR_END, 2e6f}};
     static const uint32_t in_none[7] = {0, 99, 300, 399, CLEARANCE_YEAR_END, CLEARANCE_YEAR_END + 150, UINT32_MAX};
     static const uint32_t unlawful[4] = {200, 299, 400, CLEARANCE_YEAR_END - 1};
-    struct calendar calendar = calendar_of(periods, sizeof periods);
+    struct calendar calendar = calendar_of(periods, THREE);
     drawn(survey, calendar, 100);
     drawn(survey, calendar, 199);
     for (unsigned n = 0; n < 7; n++) {
@@ -135,7 +137,7 @@ static void broken_calendars(struct survey survey)
         broken_calendar(survey, lawful, parts[n]);
     }
     for (unsigned n = 0; n < 5; n++) {
-        broken_calendar(survey, broken[n], sizeof broken[n]);
+        broken_calendar(survey, broken[n], THREE);
     }
 }
 
@@ -143,8 +145,8 @@ static void broken_calendars(struct survey survey)
 static void order(struct survey unsounded, struct survey open)
 {
     static const struct period periods[3] = {{100, 200, 0.0f}, {199, 400, 0.0f}, {400, 500, 0.0f}};
-    struct calendar broken = calendar_of(periods, sizeof periods);
-    struct calendar lawful = calendar_of(periods, CLEARANCE_CALENDAR_BYTES);
+    struct calendar broken = calendar_of(periods, THREE);
+    struct calendar lawful = calendar_of(periods, ONE);
     const struct survey empty = {NULL, 0, NULL, 0, NULL, 0};
     refused_by(empty, broken, 100, CLEARANCE_CELL_TABLE);
     refused_by(unsounded, broken, 100, CLEARANCE_SOUNDING);
@@ -161,7 +163,7 @@ static void order(struct survey unsounded, struct survey open)
 static void amended_by_calendar(struct survey unsounded)
 {
     static const struct period year[3] = {{0, CLEARANCE_YEAR_END, 0.0f}, {0, 0, 0.0f}, {0, 0, 0.0f}};
-    struct calendar calendar = calendar_of(year, CLEARANCE_CALENDAR_BYTES);
+    struct calendar calendar = calendar_of(year, ONE);
     uint8_t *amendment = allocated(RECORD);
     put_middle(amendment, 3.0f, 300);
     drawn(amended(unsounded, amendment, RECORD), calendar, 0);
@@ -174,7 +176,7 @@ static void amended_by_calendar(struct survey unsounded)
 static void trespass(struct survey survey)
 {
     static const struct period year[3] = {{0, CLEARANCE_YEAR_END, 0.0f}, {0, 0, 0.0f}, {0, 0, 0.0f}};
-    struct calendar calendar = calendar_of(year, CLEARANCE_CALENDAR_BYTES - 3);
+    struct calendar calendar = calendar_of(year, ONE - 3);
     calendar.length += 3;
     printf("%u\n", (unsigned)draw(survey, calendar, 0, NULL, none).number);
     free(calendar.records);
