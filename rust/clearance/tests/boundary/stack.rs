@@ -1,5 +1,6 @@
 //! The stack that a call needs: all calls on the largest surveys, in a thread with no more stack than the header says.
 
+use clearance::Refusal;
 use surveys::amendments::{self, with_amendments};
 use surveys::calendars::{of_records, Asked};
 use surveys::random::Random;
@@ -46,6 +47,7 @@ fn make_calls(survey: &Survey) {
     let mesh = clearance::draw_to_vec(tables, clearance).expect("drawn");
     let Asked { calendar, minute, .. } = of_records(1_000, clearance);
     assert_eq!(clearance::draw_by_calendar_to_vec(tables, &calendar, minute), Ok(mesh));
+    assert_eq!(clearance::draw_by_calendar_to_vec(tables, &[], minute), Err(Refusal::Minute));
     clearance::volume_to_vec(tables, clearance, [1_024, 0, 512]).expect("reckoned");
 }
 
