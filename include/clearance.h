@@ -48,7 +48,7 @@
  * THE CALENDAR
  *
  * Where the clearance differs over the year, between the season, the winter stoppage and flood weeks say, a calendar can be lent in its place, with the
- * minute to draw for. A record is in force from its first minute, from, up to, not including, its last, until. Minutes are counted from 0, so 1,440 is the
+ * minute to draw for. A record is in force from the minute `from` up to, not including, the minute `until`. Minutes are counted from 0, so 1,440 is the
  * first minute of the second day and 527,040 the end of a year of 366 days.
  *
  * Each from is below its until, each until is at most 527,040, and no record begins before the one ahead of it has ended, though it may begin at that very

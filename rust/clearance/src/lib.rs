@@ -222,9 +222,9 @@ pub fn draw_to_vec(survey: Survey, clearance: f32) -> Result<Mesh, Refusal> {
 /// Draws at the clearance in force at a minute of a calendar: the result, and the elements of both slices, are those of [`draw`] at that clearance given by
 /// hand. This is proved.
 ///
-/// A record is in force from its first minute, from, up to, not including, its last, until. Each from is below its until, each until is at most 527,040 (the
-/// end of a year of 366 days), and no record begins before the one ahead of it has ended, though it may begin at that very minute. There may be gaps, and no
-/// records at all. Only the clearance in force must be lawful; that of any other record may be anything.
+/// A record is in force from the minute `from` up to, not including, the minute `until`. Each from is below its until, each until is at most 527,040 (the end
+/// of a year of 366 days), and no record begins before the one ahead of it has ended, though it may begin at that very minute. There may be gaps, and no
+/// records at all. Only the clearance in force must be lawful; that of any other record may be anything. A calendar of any length is read once.
 ///
 /// [`draw_by_calendar_to_vec`] draws into vectors of its own.
 ///

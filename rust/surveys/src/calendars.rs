@@ -132,8 +132,8 @@ pub fn of_records(count: u32, clearance: f32) -> Asked {
     Asked { calendar: table((0..count).map(period)), minute, due: Ok(clearance), kind: Kind::Last }
 }
 
-/// A calendar of any kind with flipped bits, lost bytes and records that change places. It may be lawful still; nothing is
-/// known of it beforehand.
+/// A lawful calendar in which bits were flipped, bytes lost and records have changed places. It may be lawful still; nothing
+/// is known of it beforehand.
 pub fn corrupted(seed: u64, clearance: f32) -> (Vec<u8>, u32) {
     let Asked { mut calendar, minute, .. } = holding(seed, clearance);
     let random = &mut Random::new(!seed);

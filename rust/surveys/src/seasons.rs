@@ -66,55 +66,52 @@ fn calendar(records: &[Written]) -> Vec<u8> {
 /// All of them.
 pub fn known() -> Vec<Known> {
     let mut list = Vec::new();
-    for (name, calendar, asked) in [lawful(), clearances(), broken(), parts()].concat() {
+    for (name, calendar, asked) in [seasons(), years(), clearances(), broken(), parts()].concat() {
         let known = |(minute, due)| Known { name, calendar: calendar.clone(), minute, due };
         list.extend(asked.into_iter().map(known));
     }
     list
 }
 
-/// A name, a calendar, and minutes with what is due at them.
-type Listed = (&'static str, Vec<u8>, Vec<(u32, Result<f32, u32>)>);
+/// A minute, and what is due at it.
+type Due = (u32, Result<f32, u32>);
 
-fn lawful() -> Vec<Listed> {
+/// A name, a calendar, and minutes with what is due at them.
+type Listed = (&'static str, Vec<u8>, Vec<Due>);
+
+/// Minutes in and around two records that touch and one behind a gap.
+fn seasons() -> Vec<Listed> {
     let [season, flood, stoppage] = SEASONS.map(|(.., clearance)| Ok(clearance));
-    let year = |clearance| calendar(&[(0, YEAR_END, clearance)]);
-    let listed = |name, records: &[Written], asked: &[_]| (name, calendar(records), asked.to_vec());
+    let beyond = [YEAR_END, YEAR_END + 150, u32::MAX].map(|minute| (minute, IN_NONE));
+    let asked: [(&str, &[Due]); 7] = [
+        ("ahead of all records", &[(0, IN_NONE), (99, IN_NONE)]),
+        ("the first minute, the last, between", &[(100, season), (199, season), (150, season)]),
+        ("one record ends and one begins", &[(200, flood), (299, flood)]),
+        ("a gap", &[(300, IN_NONE), (350, IN_NONE), (399, IN_NONE)]),
+        ("behind a gap", &[(400, stoppage), (499, stoppage)]),
+        ("behind all records", &[(500, IN_NONE), (YEAR_END - 1, IN_NONE)]),
+        ("beyond the year", &beyond),
+    ];
+    asked.map(|(name, asked)| (name, calendar(&SEASONS), asked.to_vec())).to_vec()
+}
+
+/// Calendars that take up the whole year, its first or last minute, or nothing of it.
+fn years() -> Vec<Listed> {
+    let year = || calendar(&[(0, YEAR_END, 0.5)]);
+    let over = [YEAR_END, 1 << 20, 1 << 31].map(|minute| (minute, IN_NONE)).to_vec();
+    let never = [0, 150, u32::MAX].map(|minute| (minute, IN_NONE)).to_vec();
+    let first = calendar(&[(0, 1, 0.5)]);
+    let last = calendar(&[(527_039, 527_040, 0.5)]);
+    let far = calendar(&[(65_536, 65_792, 0.5)]);
+    let every_minute = minute_by_minute(YEAR_END, |minute| minute as f32 / 2.0);
     vec![
-        listed("ahead of all records", &SEASONS, &[(0, IN_NONE), (99, IN_NONE)]),
-        listed(
-            "the first minute, the last, between",
-            &SEASONS,
-            &[(100, season), (199, season), (150, season)],
-        ),
-        listed("one record ends and one begins", &SEASONS, &[(200, flood), (299, flood)]),
-        listed("a gap", &SEASONS, &[(300, IN_NONE), (350, IN_NONE), (399, IN_NONE)]),
-        listed("behind a gap", &SEASONS, &[(400, stoppage), (499, stoppage)]),
-        listed("behind all records", &SEASONS, &[(500, IN_NONE), (YEAR_END - 1, IN_NONE)]),
-        listed(
-            "beyond the year",
-            &SEASONS,
-            &[(YEAR_END, IN_NONE), (YEAR_END + 150, IN_NONE), (u32::MAX, IN_NONE)],
-        ),
-        ("the whole year", year(0.5), vec![(0, DRAWN), (YEAR_END - 1, DRAWN)]),
-        (
-            "the whole year is over",
-            year(0.5),
-            vec![(YEAR_END, IN_NONE), (1 << 20, IN_NONE), (1 << 31, IN_NONE)],
-        ),
-        listed("the year's first minute", &[(0, 1, 0.5)], &[(0, DRAWN), (1, IN_NONE)]),
-        listed("the year's last", &[(527_039, 527_040, 0.5)], &[(527_038, IN_NONE), (527_039, DRAWN)]),
-        listed(
-            "numbers of several bytes",
-            &[(65_536, 65_792, 0.5)],
-            &[(65_536, DRAWN), (1, IN_NONE), (256, IN_NONE)],
-        ),
-        ("empty", vec![], vec![(0, IN_NONE), (150, IN_NONE), (u32::MAX, IN_NONE)]),
-        (
-            "every minute",
-            minute_by_minute(YEAR_END, |minute| minute as f32 / 2.0),
-            vec![(0, season), (1, flood)],
-        ),
+        ("the whole year", year(), vec![(0, DRAWN), (YEAR_END - 1, DRAWN)]),
+        ("the whole year is over", year(), over),
+        ("the year's first minute", first, vec![(0, DRAWN), (1, IN_NONE)]),
+        ("the year's last minute", last, vec![(527_038, IN_NONE), (527_039, DRAWN)]),
+        ("numbers of several bytes", far, vec![(65_536, DRAWN), (1, IN_NONE), (256, IN_NONE)]),
+        ("empty", vec![], never),
+        ("every minute", every_minute, vec![(0, Ok(0.0)), (1, DRAWN)]),
     ]
 }
 

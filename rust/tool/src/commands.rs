@@ -183,8 +183,8 @@ const COMMANDS: [Command; 11] = [
         summary: "show a calendar in words",
         help: "Prints 'lawful' and the number of records of the calendar in FILE; then, from the year's first minute to its last, a line\n\
                for each record with its from, until and clearance, and one for each gap, in which nothing is in force. Minutes are\n\
-               given as day and time of day too; day 1 has the minutes 0 to 1439. A record is in force from its first minute up to, not\n\
-               including, until. A clearance that would be refused when in force, by 8, is marked.\n\
+               given as day and time of day too; day 1 has the minutes 0 to 1439. A record is in force from its minute 'from' up to,\n\
+               not including, 'until'. A clearance that would be refused when in force, by 8, is marked.\n\
                --minute N  say last which record and which clearance is in force at this minute, or that none is\n\
                If a record breaks a rule, or the calendar is not whole records, prints 'refused 16', its words, and which record breaks which\n\
                rule; of very many the first.",
