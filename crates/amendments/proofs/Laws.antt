@@ -176,7 +176,7 @@ older-changes-nothing tc tk ta fourteen fifteen old =
 
 module _ (tc tk ta : List ℕ) where
   -- no check of the three tables has the number 0
-  all-numbered : T (numbered (amendmentChecks tc tk ta))
+  pub all-numbered : T (numbered (amendmentChecks tc tk ta))
   unfolding amendmentChecks tableChecks
   all-numbered = tt
 

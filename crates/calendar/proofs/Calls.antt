@@ -10,13 +10,14 @@ use lib.Ieee.{Float}
 use borrow.Author.Tests.{eqb-false, ne-eqb}
 use Rattle.base.proofs.Tests.{→true}
 use Rattle.rules.specs.OpenAtBox.{openAtBox}
-use Rattle.rules.specs.Outputs.{inRange, firstOf, tableChecks, soundingCheck, surveyChecks, checks, drawingChecks, draw}
+use Rattle.rules.specs.Outputs.{inRange, firstOf, tableChecks, soundingCheck, surveyChecks, checks, drawingChecks}
 use Rattle.rules.specs.Resounding.{amended, amendmentChecks, checkAmended, undrawn, drawAmended, checkOrder, ChecksInOrder}
 use Rattle.rules.specs.Calendar.{clearanceAt, badCalendar, noneHolds, calendarChecks, drawByCalendar}
 use Rattle.octree.proofs.Accepted.{numbered, first-append}
-use Rattle.amendments.proofs.Calls.{tables-pass, tables-same, called, refused-by-amendments}
-use Rattle.amendments.proofs.Laws.{checks-in-order}
+use Rattle.amendments.proofs.Calls.{tables-pass, amended-pass}
+use Rattle.amendments.proofs.Laws.{all-numbered, checks-in-order}
 use Rattle.drawing.proofs.Outcome.{refused}
+use Rattle.drawing.proofs.Amended.{refused-is, drawn-is}
 use Rattle.calendar.specs.ReadingAt.{readingAt}
 use Rattle.calendar.specs.declared.Reading.{Reading}
 use Rattle.calendar.specs.declared.Reading.the-variants.{Refused, Clearance}
@@ -38,14 +39,6 @@ module _ (tc tk ta : List ℕ) where
   unfolding ChecksInOrder
   checked = checks-in-order tc tk ta .check
 
-  -- as a call finds it: m by a check of the survey by itself
-  module _ (n m : ℕ) (is : m ≡ checkAmended tc tk ta) where
-    pub survey-first : (m ≡ 0 → ⊥) → m ≡ firstOf (checkOrder tc tk ta ++ (n, true) ∷ [])
-    survey-first some = sym (after ((n, true) ∷ []) ∙ rw (← (is ∙ checked), ne-eqb m 0 some) refl)
-
-    pub own-next : m ≡ 0 → n ≡ firstOf (checkOrder tc tk ta ++ (n, true) ∷ [])
-    own-next zero = sym (after ((n, true) ∷ []) ∙ rw (← (is ∙ checked), zero) refl)
-
   -- a survey that is refused by itself is drawn at no clearance
   module _ (clearance : Float) (ps : List Float) (ts : List ℕ) (some : surveyNumber ≡ 0 → ⊥) where
     abbrev tablesNumber : ℕ
@@ -53,13 +46,12 @@ module _ (tc tk ta : List ℕ) where
 
     seven-after : surveyNumber ≡ cond (eqb tablesNumber 0) (firstOf (soundingCheck (amended tk ta) ∷ [])) tablesNumber
     unfolding checkOrder
-    seven-after = first-append (amendmentChecks tc tk ta) (soundingCheck (amended tk ta) ∷ []) (unfold amendmentChecks tableChecks in tt)
+    seven-after = first-append (amendmentChecks tc tk ta) (soundingCheck (amended tk ta) ∷ []) (all-numbered tc tk ta)
 
     -- by 1 to 6, 14 or 15
     by-tables : (tablesNumber ≡ 0 → ⊥) → drawAmended tc tk ta clearance ps ts ≡ undrawn surveyNumber ps ts
-    unfolding drawAmended
     by-tables apply =
-        refused-by-amendments tc tk ta (λ m. undrawn m ps ts) (λ t. draw tc t clearance ps ts) tablesNumber refl apply
+        refused-is tc tk ta clearance ps ts tablesNumber refl apply
         ∙ ap (λ m. undrawn m ps ts) (sym (seven-after ∙ rw (ne-eqb tablesNumber 0 apply)))
 
     -- by 7 of the table as amended
@@ -76,17 +68,16 @@ module _ (tc tk ta : List ℕ) where
         behind-tables : firstOf (drawingChecks tc (amended tk ta) clearance) ≡ firstOf (seven ∷ further)
         behind-tables =
             first-append (tableChecks tc (amended tk ta)) (seven ∷ further) tt
-            ∙ rw (ap firstOf (tables-same tc tk ta (tables-pass tc tk ta pass)) ∙ tables-pass tc tk ta pass) refl
+            ∙ rw (amended-pass tc tk ta (amended tk ta) (tables-pass tc tk ta pass) refl) refl
 
         go : (b : Bool) → (b ≡ false → ⊥) → cond b 7 0 ≡ cond b 7 (firstOf further)
         go true applies = refl
         go false applies = absurd (applies refl)
 
     by-seven : tablesNumber ≡ 0 → drawAmended tc tk ta clearance ps ts ≡ undrawn surveyNumber ps ts
-    unfolding drawAmended
     by-seven pass =
         let d = refused tc (amended tk ta) clearance ps ts surveyNumber (seven-first pass) some in
-        called tc tk ta (λ m. undrawn m ps ts) (λ t. draw tc t clearance ps ts) pass
+        drawn-is tc tk ta clearance ps ts pass
         ∙ (λ i. record { result = sym (d .result-is) i; points = sym (d .points-are) i; triangles = sym (d .triangles-are) i })
 
     pub survey-undrawn : drawAmended tc tk ta clearance ps ts ≡ undrawn surveyNumber ps ts
@@ -98,9 +89,9 @@ module _ (tc tk ta : List ℕ) where
 
 -- ---- what the calendar reads
 
-abbrev numberIn : Reading → ℕ
-numberIn (Refused n) = n
-numberIn (Clearance v) = 0
+abbrev refusalIn : Reading → ℕ
+refusalIn (Refused n) = n
+refusalIn (Clearance v) = 0
 
 abbrev isRefused : Reading → Bool
 isRefused (Refused n) = true
@@ -123,8 +114,8 @@ module _ (t : List ℕ) (minute : ℕ) where
   refused→ n e = go (badCalendar t) (noneHolds t minute) e
     where
       go : (bad none : Bool) → Refused n ≡ reading bad none → (cond bad 16 (cond none 17 0) ≡ n) × (n ≡ 0 → ⊥)
-      go true none e = let is = ap numberIn e in (sym is, λ z. omega arith)
-      go false true e = let is = ap numberIn e in (sym is, λ z. omega arith)
+      go true none e = let is = ap refusalIn e in (sym is, λ z. omega arith)
+      go false true e = let is = ap refusalIn e in (sym is, λ z. omega arith)
       go false false e = absurd (true≢false (ap isRefused e))
 
   -- where it has a clearance, neither does, and that one is in force

@@ -1,4 +1,5 @@
--- The laws of request 7: the call is the drawing by hand, at most one record holds, an empty calendar gives 17, and the checks come in their order.
+-- The laws of request 7: the call is the drawing by hand; one record at most is in force, and one is where neither 16 nor 17 applies; a calendar has no more
+-- records than the year has minutes; an empty one gives 17; and the checks come in their order.
 -- Assumes nothing.
 use Prim.Native.Nat.{ℕ, _%_, _<_}
 use mathlib.Core.Path.{_≡_, refl, sym, ap, _∙_, subst}
@@ -10,24 +11,26 @@ use lib.ListN.{length, getD}
 use lib.Ieee.{Float, nan}
 use Rattle.base.specs.Lists.{any, all, position}
 use Rattle.base.proofs.Tests.{→true, true→, false→}
+use Rattle.base.proofs.Lists.{position-of}
 use Rattle.base.proofs.Below.{get-table, length-table, position-at, first-position, any-position}
 use Rattle.rules.specs.OpenAtBox.{openAtBox}
 use Rattle.rules.specs.Outputs.{inRange, firstOf, sliceChecks, tableChecks}
 use Rattle.rules.specs.Resounding.{amended, amendmentChecks, undrawn, drawAmended, checkOrder, drawingOrder, InOrder, ChecksInOrder}
-use Rattle.rules.specs.Calendar.{periodSize, periodCount, periodAt, periodsOf, holdsAt, rightPeriod, inTurn, clearanceAt, badCalendar, noneHolds}
-use Rattle.rules.specs.Calendar.{calendarChecks, drawByCalendar, InForce, ByHand, AtMostOne, EmptyGivesSeventeen, CalendarInOrder, FewPeriods}
+use Rattle.rules.specs.Calendar.{periodSize, periodCount, periodAt, periodsOf, holdsAt, rightPeriod, inTurn, noPeriod, clearanceAt, badCalendar}
+use Rattle.rules.specs.Calendar.{noneHolds, calendarChecks, drawByCalendar, InForce, ByHand, SomeInForce, AtMostOne, FewPeriods, EmptyGivesSeventeen}
+use Rattle.rules.specs.Calendar.{CalendarInOrder}
 use Rattle.rules.specs.declared.Period.{Period}
 use Rattle.octree.proofs.Accepted.{numbered, first-append, first-none}
 use Rattle.amendments.proofs.Laws.{checks-in-order}
-use Rattle.calendar.proofs.Periods.{follow, follow-is, few, not-ahead}
+use Rattle.calendar.proofs.Periods.{allFollow, all-follow-is, few, not-ahead}
 use Rattle.calendar.proofs.Calls.{surveyNumber, survey-numbered, after, own, drawn-by}
 
 -- ---- a lawful calendar
 
--- its records follow each other
-following : (t : List ℕ) → T (not (badCalendar t)) → T (follow 0 (periodsOf t))
+-- its records allFollow each other
+following : (t : List ℕ) → T (not (badCalendar t)) → T (allFollow 0 (periodsOf t))
 unfolding badCalendar
-following t lawful = rw (follow-is (periodsOf t)) (go (eqb (length t % periodSize) 0) (all rightPeriod (periodsOf t) && inTurn (periodsOf t)) lawful)
+following t lawful = rw (all-follow-is (periodsOf t)) (go (eqb (length t % periodSize) 0) (all rightPeriod (periodsOf t) && inTurn (periodsOf t)) lawful)
   where
     go : (whole right : Bool) → T (not (not whole || not right)) → T right
     go true true h = tt
@@ -41,26 +44,22 @@ few-periods t lawful = omega (arith, few 0 (periodsOf t) (omega arith) (followin
 
 -- record k is in force at a minute
 module _ (t : List ℕ) (minute k : ℕ) (force : InForce t minute k) where
-  -- no record, by the number where there is none
-  abbrev none : Period
-  none = record { from = 0; until = 0; clearance = nan }
-
   inside : k < length (periodsOf t)
   unfolding periodsOf
   inside = omega (arith, length-table (periodAt t) (periodCount t), force .there)
 
-  kth : getD (periodsOf t) k none ≡ periodAt t k
+  kth : getD (periodsOf t) k noPeriod ≡ periodAt t k
   unfolding periodsOf
-  kth = get-table (periodAt t) none (periodCount t) k (force .there)
+  kth = get-table (periodAt t) noPeriod (periodCount t) k (force .there)
 
-  it-holds : T (holdsAt minute (getD (periodsOf t) k none))
+  it-holds : T (holdsAt minute (getD (periodsOf t) k noPeriod))
   it-holds = subst (λ (p : Period). T (holdsAt minute p)) (sym kth) (force .holds)
 
   -- it is the first that holds
   first-held : position (holdsAt minute) 0 (periodsOf t) ≡ k
   first-held =
-      position-at (holdsAt minute) none (periodsOf t) 0 k inside (true→ (holdsAt minute (getD (periodsOf t) k none)) it-holds)
-      (λ j l. not-ahead none minute 0 (periodsOf t) j k (following t (force .lawful)) l inside it-holds)
+      position-at (holdsAt minute) noPeriod (periodsOf t) 0 k inside (true→ (holdsAt minute (getD (periodsOf t) k noPeriod)) it-holds)
+      (λ j l. not-ahead noPeriod minute 0 (periodsOf t) j k (following t (force .lawful)) l inside it-holds)
       ∙ omega arith
 
   -- so its clearance is in force, and 17 does not apply
@@ -68,7 +67,7 @@ module _ (t : List ℕ) (minute k : ℕ) (force : InForce t minute k) where
   unfolding clearanceAt
   in-force =
       ap (λ (p : Period). p .clearance)
-      (first-position (holdsAt minute) none (periodsOf t) ∙ ap (λ j. getD (periodsOf t) j none) first-held ∙ kth)
+      (first-position (holdsAt minute) noPeriod (periodsOf t) ∙ ap (λ j. getD (periodsOf t) j noPeriod) first-held ∙ kth)
 
   some-holds : noneHolds t minute ≡ false
   unfolding noneHolds
@@ -82,6 +81,20 @@ module _ (t : List ℕ) (minute k : ℕ) (force : InForce t minute k) where
 pub by-hand : ByHand
 unfolding ByHand
 by-hand tc tk ta t minute k force ps ts = hand t minute k force tc tk ta ps ts
+
+-- the first record that holds, where there is one
+pub some-in-force : SomeInForce
+unfolding SomeInForce noneHolds periodsOf
+some-in-force t minute lawful held =
+    let (k, at, inside, holds) = position-of (holdsAt minute) noPeriod (periodsOf t) 0 (not-not (any (holdsAt minute) (periodsOf t)) held) in
+    let there : k < periodCount t = omega (arith, inside, length-table (periodAt t) (periodCount t)) in
+    let kth = get-table (periodAt t) noPeriod (periodCount t) k there in
+    let force : InForce t minute k = record { lawful = lawful; there = there; holds = subst (λ (p : Period). T (holdsAt minute p)) kth holds } in
+    (k, force, in-force t minute k force)
+  where
+    not-not : (b : Bool) → T (not (not b)) → T b
+    not-not true h = tt
+    not-not false h = absurd h
 
 pub at-most-one : AtMostOne
 unfolding AtMostOne

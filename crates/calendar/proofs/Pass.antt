@@ -16,7 +16,7 @@ use Rattle.rules.specs.declared.Period.{Period}
 use Rattle.calendar.specs.ReadingAt.{readingAt}
 use Rattle.calendar.specs.declared.Reading.{Reading}
 use Rattle.calendar.specs.declared.Reading.the-variants.{Refused, Clearance}
-use Rattle.calendar.proofs.Periods.{follows, follow, follow-is, follows→, holds→, none-yet}
+use Rattle.calendar.proofs.Periods.{follows, allFollow, all-follow-is, lawful→, holds→, none-yet}
 
 module _ (minute : ℕ) where
   -- what is read with one record more
@@ -35,26 +35,26 @@ module _ (minute : ℕ) where
   pass reading ended (p ∷ rest) = let r = pass (noted reading p) (p .until) rest in cond (follows ended p) r (Refused 16)
 
   -- some record breaks a rule
-  breach : (reading : Reading) (ended : ℕ) (ps : List Period) → follow ended ps ≡ false → pass reading ended ps ≡ Refused 16
+  breach : (reading : Reading) (ended : ℕ) (ps : List Period) → allFollow ended ps ≡ false → pass reading ended ps ≡ Refused 16
   breach reading ended [] e = absurd (true≢false e)
   breach reading ended (p ∷ rest) e = go (follows ended p) e (breach (noted reading p) (p .until) rest)
     where
-      go : (b : Bool) → b && follow (p .until) rest ≡ false
-          → (follow (p .until) rest ≡ false → pass (noted reading p) (p .until) rest ≡ Refused 16)
+      go : (b : Bool) → b && allFollow (p .until) rest ≡ false
+          → (allFollow (p .until) rest ≡ false → pass (noted reading p) (p .until) rest ≡ Refused 16)
           → cond b (pass (noted reading p) (p .until) rest) (Refused 16) ≡ Refused 16
       go true r later = later r
       go false r later = refl
 
   -- none does: then the first is passed
-  passed : (reading : Reading) (ended : ℕ) (p : Period) (rest : List Period) → T (follow ended (p ∷ rest))
+  passed : (reading : Reading) (ended : ℕ) (p : Period) (rest : List Period) → T (allFollow ended (p ∷ rest))
       → pass reading ended (p ∷ rest) ≡ pass (noted reading p) (p .until) rest
-  passed reading ended p rest f = rw (true→ (follows ended p) (and→ (follows ended p) (follow (p .until) rest) f .0)) refl
+  passed reading ended p rest f = rw (true→ (follows ended p) (and→ (follows ended p) (allFollow (p .until) rest) f .0)) refl
 
   -- where no record holds, what was read stays
-  unmoved : (reading : Reading) (ended : ℕ) (ps : List Period) → T (follow ended ps) → any (holdsAt minute) ps ≡ false → pass reading ended ps ≡ reading
+  unmoved : (reading : Reading) (ended : ℕ) (ps : List Period) → T (allFollow ended ps) → any (holdsAt minute) ps ≡ false → pass reading ended ps ≡ reading
   unmoved reading ended [] f e = refl
   unmoved reading ended (p ∷ rest) f e =
-      passed reading ended p rest f ∙ go (holdsAt minute p) e (unmoved reading (p .until) rest (follows→ ended p rest f .behind))
+      passed reading ended p rest f ∙ go (holdsAt minute p) e (unmoved reading (p .until) rest (lawful→ ended p rest f .behind))
     where
       go : (b : Bool) → b || any (holdsAt minute) rest ≡ false → (any (holdsAt minute) rest ≡ false → pass reading (p .until) rest ≡ reading)
           → pass (cond b (Clearance (p .clearance)) reading) (p .until) rest ≡ reading
@@ -62,34 +62,34 @@ module _ (minute : ℕ) where
       go false r later = later r
 
   -- and where one holds, its clearance is read
-  found : (d : Period) (reading : Reading) (ended : ℕ) (ps : List Period) → T (follow ended ps) → any (holdsAt minute) ps ≡ true
+  found : (d : Period) (reading : Reading) (ended : ℕ) (ps : List Period) → T (allFollow ended ps) → any (holdsAt minute) ps ≡ true
       → pass reading ended ps ≡ Clearance (first (holdsAt minute) d ps .clearance)
   found d reading ended [] f e = absurd (true≢false (sym e))
   found d reading ended (p ∷ rest) f e =
-      passed reading ended p rest f ∙ go (holdsAt minute p) refl e (found d reading (p .until) rest (follows→ ended p rest f .behind))
+      passed reading ended p rest f ∙ go (holdsAt minute p) refl e (found d reading (p .until) rest (lawful→ ended p rest f .behind))
     where
       go : (b : Bool) → holdsAt minute p ≡ b → b || any (holdsAt minute) rest ≡ true
           → (any (holdsAt minute) rest ≡ true → pass reading (p .until) rest ≡ Clearance (first (holdsAt minute) d rest .clearance))
           → pass (cond b (Clearance (p .clearance)) reading) (p .until) rest ≡ Clearance (cond b p (first (holdsAt minute) d rest) .clearance)
       go true q r later =
-          let behind = follows→ ended p rest f .behind in
+          let behind = lawful→ ended p rest f .behind in
           unmoved (Clearance (p .clearance)) (p .until) rest behind (none-yet minute (p .until) rest (holds→ minute p (→true q) .1) behind)
       go false q r later = later r
 
 -- the whole of a calendar of whole records is read so
 pub reads : (t : List ℕ) (minute : ℕ) → length t % periodSize ≡ 0 → pass minute (Refused 17) 0 (periodsOf t) ≡ readingAt t minute
 unfolding readingAt badCalendar noneHolds clearanceAt
-reads t minute whole = rw (eq-eqb (length t % periodSize) 0 whole, ← follow-is (periodsOf t)) (go (follow 0 (periodsOf t)) refl)
+reads t minute whole = rw (eq-eqb (length t % periodSize) 0 whole, ← all-follow-is (periodsOf t)) (go (allFollow 0 (periodsOf t)) refl)
   where
     ps : List Period
     ps = periodsOf t
 
-    held : (b : Bool) → any (holdsAt minute) ps ≡ b → T (follow 0 ps)
+    held : (b : Bool) → any (holdsAt minute) ps ≡ b → T (allFollow 0 ps)
         → pass minute (Refused 17) 0 ps ≡ cond (not b) (Refused 17) (Clearance (clearanceAt t minute))
     held true e f = found minute _ (Refused 17) 0 ps f e
     held false e f = unmoved minute (Refused 17) 0 ps f e
 
-    go : (b : Bool) → follow 0 ps ≡ b
+    go : (b : Bool) → allFollow 0 ps ≡ b
         → pass minute (Refused 17) 0 ps ≡ cond (not b) (Refused 16) (cond (not (any (holdsAt minute) ps)) (Refused 17) (Clearance (clearanceAt t minute)))
     go true e = held (any (holdsAt minute) ps) refl (→true e)
     go false e = breach minute (Refused 17) 0 ps e

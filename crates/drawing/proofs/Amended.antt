@@ -29,7 +29,7 @@ module _ (tc tk ta : List ℕ) (clearance : Float) (ps : List Float) (ts : List 
       nothing n (unfold drawAmended in refused-by-tables tc tk ta (λ m. undrawn m ps ts) (λ t. draw tc t clearance ps ts) n is some)
 
   -- or by 14 or 15
-  refused-is : (n : ℕ) → n ≡ firstOf (amendmentChecks tc tk ta) → (n ≡ 0 → ⊥) → drawAmended tc tk ta clearance ps ts ≡ undrawn n ps ts
+  pub refused-is : (n : ℕ) → n ≡ firstOf (amendmentChecks tc tk ta) → (n ≡ 0 → ⊥) → drawAmended tc tk ta clearance ps ts ≡ undrawn n ps ts
   unfolding drawAmended
   refused-is = refused-by-amendments tc tk ta (λ m. undrawn m ps ts) (λ t. draw tc t clearance ps ts)
 
@@ -37,7 +37,7 @@ module _ (tc tk ta : List ℕ) (clearance : Float) (ps : List Float) (ts : List 
   refused-next n is some = nothing n (refused-is n is some)
 
   -- by none: drawn with the corner table as amended
-  drawn-is : firstOf (amendmentChecks tc tk ta) ≡ 0 → drawAmended tc tk ta clearance ps ts ≡ draw tc (amended tk ta) clearance ps ts
+  pub drawn-is : firstOf (amendmentChecks tc tk ta) ≡ 0 → drawAmended tc tk ta clearance ps ts ≡ draw tc (amended tk ta) clearance ps ts
   unfolding drawAmended
   drawn-is = called tc tk ta (λ m. undrawn m ps ts) (λ t. draw tc t clearance ps ts)
 

@@ -51,11 +51,15 @@ inTurn [] = true
 inTurn (p ∷ []) = true
 inTurn (p ∷ q ∷ rest) = let r = inTurn (q ∷ rest) in leb (p .until) (q .from) && r
 
--- The clearance in force at a minute: that of the record that holds then. A lawful calendar has at most one (`AtMostOne`). Where there is none, which 17
--- refuses, this is not a number.
+-- what stands for a record where there is none: it never holds, and its clearance is not a number
+abbrev pub noPeriod : Period
+noPeriod = record { from = 0; until = 0; clearance = nan }
+
+-- the clearance in force at a minute: that of the record that holds then, of which a lawful calendar has at most one (`AtMostOne`); where there is none, 17
+-- refuses
 unfoldable pub clearanceAt : List ℕ → ℕ → Float
 unfolding periodsOf
-clearanceAt t minute = first (holdsAt minute) (record { from = 0; until = 0; clearance = nan }) (periodsOf t) .clearance
+clearanceAt t minute = first (holdsAt minute) noPeriod (periodsOf t) .clearance
 
 -- ---- the checks
 
@@ -98,7 +102,13 @@ unfolding periodAt drawAmended drawByCalendar
 ByHand = (tc tk ta t : List ℕ) (minute k : ℕ) → InForce t minute k → (ps : List Float) (ts : List ℕ)
     → drawByCalendar tc tk ta t minute ps ts ≡ drawAmended tc tk ta (periodAt t k .clearance) ps ts
 
--- No two records hold at a minute;
+-- Where neither 16 nor 17 applies, a record is in force, and its clearance is the one that the drawing is made at;
+unfoldable pub SomeInForce : Type 0
+unfolding periodAt clearanceAt badCalendar noneHolds
+SomeInForce = (t : List ℕ) (minute : ℕ) → T (not (badCalendar t)) → T (not (noneHolds t minute))
+    → (k : ℕ) × InForce t minute k × (clearanceAt t minute ≡ periodAt t k .clearance)
+
+-- no other is;
 unfoldable pub AtMostOne : Type 0
 AtMostOne = (t : List ℕ) (minute j k : ℕ) → InForce t minute j → InForce t minute k → j ≡ k
 
