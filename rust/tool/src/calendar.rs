@@ -12,7 +12,8 @@ const MINUTES_OF_A_DAY: u32 = 1_440;
 /// So many records that break a rule are shown: a file that is no calendar has very many.
 const MOST_BREACHES: usize = 20;
 
-/// Every record and every gap of a calendar, and what is in force at this minute; or, if the calendar is refused, which records break which rules.
+/// Every record and every gap of a calendar, and what is in force at this minute; or, if the calendar is refused, which records break which rules. The words
+/// are an error where the calendar is refused, or a drawing at this minute, by 17 or 8.
 pub fn words(calendar: &[u8], minute: Option<u32>) -> Result<String, String> {
     let periods: Vec<Period> = periods(calendar).collect();
     let breaches = breaches(&periods, calendar.len() % Period::BYTES);
@@ -21,16 +22,25 @@ pub fn words(calendar: &[u8], minute: Option<u32>) -> Result<String, String> {
     }
     let head = match periods.len() {
         0 => String::from("lawful: empty, so that no clearance is in force at any minute"),
-        1 => String::from("lawful: 1 record"),
-        count => format!("lawful: {count} records"),
+        count => format!("lawful: {}", counted(count, "record")),
     };
-    let asked = minute.map(|minute| in_force(&periods, minute));
-    Ok(lines([head].into_iter().chain(year(&periods)).chain(asked)))
+    let shown = |asked| lines([head].into_iter().chain(year(&periods)).chain(asked));
+    match minute.map(|minute| in_force(&periods, minute)) {
+        None => Ok(shown(None)),
+        Some(Ok(said)) => Ok(shown(Some(said))),
+        Some(Err(said)) => Err(shown(Some(said))),
+    }
 }
 
 /// Each with its line feed.
 fn lines(lines: impl Iterator<Item = String>) -> String {
     lines.map(|line| line + "\n").collect()
+}
+
+/// So many of these, in the singular if it is one.
+fn counted(count: usize, what: &str) -> String {
+    let ending = if count == 1 { "" } else { "s" };
+    format!("{count} {what}{ending}")
 }
 
 /// A minute of the year, also as day and time of day. Day 1 has the minutes 0 to 1,439.
@@ -67,14 +77,20 @@ fn gap(from: u32, until: u32) -> Option<String> {
     (from < until).then(|| format!("gap: {}", stretch(from, until)))
 }
 
-/// What is in force at a minute of a lawful calendar.
-fn in_force(periods: &[Period], minute: u32) -> String {
+/// What is in force at a minute of a lawful calendar; an error where a drawing at this minute is refused for it.
+fn in_force(periods: &[Period], minute: u32) -> Result<String, String> {
+    let at = format!("minute {}", moment(minute));
     let found = periods.iter().position(|period| (period.from..period.until).contains(&minute));
-    let said = match found {
-        Some(number) => format!("record {number} is in force, {}", clearance(periods[number].clearance)),
-        None => String::from("no record is in force; a drawing is refused by 17"),
+    let Some(number) = found else {
+        return Err(format!("{at}: no record is in force; a drawing is refused by 17"));
     };
-    format!("minute {}: {said}", moment(minute))
+    let clearance = periods[number].clearance;
+    let said = format!("{at}: record {number} is in force, clearance {clearance}");
+    if out_of_range(clearance) {
+        Err(said + ", refused by 8")
+    } else {
+        Ok(said)
+    }
 }
 
 /// The first records that break a rule, each with what it breaks, and how many more there are; and the bytes behind the last whole record, if there are any.
@@ -83,8 +99,8 @@ fn breaches(periods: &[Period], bytes_over: usize) -> Vec<String> {
     let more = breaches.len().saturating_sub(MOST_BREACHES);
     breaches.truncate(MOST_BREACHES);
     breaches.extend((more > 0).then(|| format!("and {more} more")));
-    let part = || format!("behind {} whole records there are {bytes_over} bytes of another", periods.len());
-    breaches.extend((bytes_over > 0).then(part));
+    let [whole, over] = [counted(periods.len(), "whole record"), counted(bytes_over, "byte")];
+    breaches.extend((bytes_over > 0).then(|| format!("behind {whole}: {over} of another")));
     breaches
 }
 
@@ -141,14 +157,17 @@ mod tests {
             record 2: from 4320 (day 4 00:00) until 4321 (day 4 00:01): clearance -1048577, refused by 8 when in force\n\
             gap: from 4321 (day 4 00:01) until 527040 (day 367 00:00)\n";
         assert_eq!(words(&seasons, None).as_deref(), Ok(expected));
-        let asked = [
-            (0, "0 (day 1 00:00): record 0 is in force, clearance 0.5"),
-            (1_440, "1440 (day 2 00:00): record 1 is in force, clearance NaN, refused by 8 when in force"),
+        let asked = |minute| words(&seasons, Some(minute));
+        let shown = |said| format!("{expected}minute {said}\n");
+        assert_eq!(asked(0), Ok(shown("0 (day 1 00:00): record 0 is in force, clearance 0.5")));
+        let refused = [
+            (1_440, "1440 (day 2 00:00): record 1 is in force, clearance NaN, refused by 8"),
             (2_940, "2940 (day 3 01:00): no record is in force; a drawing is refused by 17"),
+            (4_320, "4320 (day 4 00:00): record 2 is in force, clearance -1048577, refused by 8"),
             (527_040, "527040 (day 367 00:00): no record is in force; a drawing is refused by 17"),
         ];
-        for (minute, said) in asked {
-            assert_eq!(words(&seasons, Some(minute)), Ok(format!("{expected}minute {said}\n")));
+        for (minute, said) in refused {
+            assert_eq!(asked(minute), Err(shown(said)));
         }
     }
 
@@ -171,9 +190,20 @@ mod tests {
             record 2: from 300 (day 1 05:00) until 300 (day 1 05:00): its from is not below its until\n\
             record 3: from 500 (day 1 08:20) until 400 (day 1 06:40): its from is not below its until\n\
             record 4: from 1 (day 1 00:01) until 527041 (day 367 00:01): its until is above 527040; it begins before record 3 has ended, at 400 (day 1 06:40)\n\
-            behind 5 whole records there are 7 bytes of another\n";
+            behind 5 whole records: 7 bytes of another\n";
         for minute in [None, Some(0), Some(150)] {
             assert_eq!(words(&broken, minute).unwrap_err(), expected);
+        }
+    }
+
+    #[test]
+    fn of_one_record_and_one_byte_the_singular_is_said() {
+        let whole = calendar(&[(0, 60, 0.0)]);
+        for (bytes, said) in [
+            (&[&whole[..], &[0]].concat()[..], "behind 1 whole record: 1 byte of another"),
+            (&whole[..11], "behind 0 whole records: 11 bytes of another"),
+        ] {
+            assert_eq!(words(bytes, None).unwrap_err().lines().last(), Some(said));
         }
     }
 

@@ -185,9 +185,10 @@ const COMMANDS: [Command; 11] = [
                for each record with its from, until and clearance, and one for each gap, in which nothing is in force. Minutes are\n\
                given as day and time of day too; day 1 has the minutes 0 to 1439. A record is in force from its minute 'from' up to,\n\
                not including, 'until'. A clearance that would be refused when in force, by 8, is marked.\n\
-               --minute N  say last which record and which clearance is in force at this minute, or that none is\n\
+               --minute N  say last which record and which clearance is in force at this minute, or that none is; the exit status is 1\n\
+               \x20           where none is (17), or the clearance in force is refused (8)\n\
                If a record breaks a rule, or the calendar is not whole records, prints 'refused 16', its words, and which record breaks which\n\
-               rule; of very many the first.",
+               rule, for the first 20; the exit status is 1. A missing FILE is an error.",
         takes: || vec![path(FILE), count(MINUTE)],
         run: show_calendar,
     },

@@ -162,11 +162,26 @@ fn calendar_shows_the_example() {
     let asked = printed(&["calendar", "--minute", "142561", &calendar]);
     let said = "minute 142561 (day 100 00:01): record 1 is in force, clearance 96\n";
     assert_eq!(asked, format!("{expected}{said}"));
-    let none = printed(&["calendar", &calendar, "--minute", "0"]);
-    assert!(
-        none.ends_with("minute 0 (day 1 00:00): no record is in force; a drawing is refused by 17\n"),
-        "{none}"
-    );
+}
+
+/// The calendar is lawful and shown all the same.
+#[test]
+fn calendar_ends_with_1_at_a_minute_that_is_refused() {
+    let place = Place::new("minutes");
+    let calendar = place.below("calendar");
+    let record = |from, until, clearance| Period { from, until, clearance };
+    fs::write(&calendar, table([record(0, 60, 0.5), record(60, 120, f32::NAN)])).expect("a file");
+    let shown = printed(&["calendar", &calendar]);
+    let asked = [
+        ("59", 0, "59 (day 1 00:59): record 0 is in force, clearance 0.5"),
+        ("60", 1, "60 (day 1 01:00): record 1 is in force, clearance NaN, refused by 8"),
+        ("120", 1, "120 (day 1 02:00): no record is in force; a drawing is refused by 17"),
+    ];
+    for (minute, status, said) in asked {
+        let ran = run(&["calendar", &calendar, "--minute", minute]);
+        let expected = format!("{shown}minute {said}\n");
+        assert_eq!((ran.status, ran.out, ran.errors), (status, expected, String::new()));
+    }
 }
 
 #[test]
@@ -179,7 +194,7 @@ fn calendar_refuses_and_says_why() {
         let ran = run(&[&["calendar", &calendar], options].concat());
         let expected = "refused 16: the calendar is not whole records or breaks a rule of calendars\n\
             record 0: from 60 (day 1 01:00) until 60 (day 1 01:00): its from is not below its until\n\
-            behind 1 whole records there are 1 bytes of another\n";
+            behind 1 whole record: 1 byte of another\n";
         assert_eq!((ran.status, ran.out.as_str(), ran.errors.as_str()), (1, expected, ""));
     }
 }
@@ -228,13 +243,13 @@ fn by_library(calendar: &[u8], minute: u32) -> Result<Mesh, Refusal> {
 
 fn assert_as_library(Asked { calendar, minute, kind, .. }: &Asked, what: &str) {
     let library = by_library(calendar, *minute);
-    let text = match words(calendar, Some(*minute)) {
-        Ok(text) => text,
-        Err(text) => {
-            assert!(text.starts_with("refused 16: ") && text.lines().count() > 1, "{what}: {text}");
-            return assert_eq!(library, Err(Refusal::Calendar), "{what}: {kind:?}");
-        }
-    };
+    let asked = words(calendar, Some(*minute));
+    assert_eq!(asked.is_err(), library.is_err(), "{what}: {kind:?}");
+    let (Ok(text) | Err(text)) = asked;
+    if text.starts_with("refused 16: ") {
+        assert!(text.lines().count() > 1, "{what}: {text}");
+        return assert_eq!(library, Err(Refusal::Calendar), "{what}: {kind:?}");
+    }
     assert_whole_year(calendar, &text, what);
     let said = match said_in_force(&text) {
         Some(clearance) => draw_to_vec(tables(&seasons::survey()), clearance),
@@ -266,12 +281,13 @@ fn the_words_of_random_calendars_are_as_the_library_answers() {
 #[test]
 fn the_words_of_known_calendars_are_as_said_by_hand() {
     for known in seasons::known().into_iter().filter(|known| known.calendar.len() < 1_000) {
-        let text = words(&known.calendar, Some(known.minute));
-        let what = format!("{}, minute {}: {text:?}", known.name, known.minute);
+        let asked = words(&known.calendar, Some(known.minute));
+        let what = format!("{}, minute {}: {asked:?}", known.name, known.minute);
+        let is_lawful = known.due.is_ok_and(|clearance| clearance.abs() <= 1_048_576.0);
+        assert_eq!(asked.is_ok(), is_lawful, "{what}");
+        let (Ok(text) | Err(text)) = asked;
+        assert_eq!(text.starts_with("refused 16: "), known.due == Err(16), "{what}");
         let bits = |clearance: Option<f32>| clearance.map(f32::to_bits);
-        match known.due {
-            Err(16) => assert!(text.is_err(), "{what}"),
-            due => assert_eq!(bits(said_in_force(&text.expect(&what))), bits(due.ok()), "{what}"),
-        }
+        assert_eq!(bits(said_in_force(&text)), bits(known.due.ok()), "{what}");
     }
 }
