@@ -64,8 +64,8 @@ pub fn missing(directory: &Path, reading: Reading) -> Vec<PathBuf> {
     names.map(|name| directory.join(name)).filter(is_missing).collect()
 }
 
-/// Writes a survey, and a calendar unless it is empty, into a new directory if there is none. Never writes over a file, nor beside amendments of another
-/// survey.
+/// Writes a survey, and a calendar unless it is empty, into a new directory if there is none. Never writes over a file, nor beside the amendments or the
+/// calendar of another survey.
 pub fn write(directory: &Path, survey: &Survey, calendar: &[u8]) -> Result<(), Failure> {
     fs::create_dir_all(directory).map_err(Failure::of_file(directory))?;
     if let Some(path) = NAMES.map(|name| directory.join(name)).iter().find(|path| path.exists()) {

@@ -92,13 +92,15 @@ fn amendments_that_are_not_lawful_are_refused_by_every_command() {
 }
 
 #[test]
-fn no_example_is_written_beside_amendments_of_another_survey() {
-    let place = Place::new("beside");
-    fs::write(place.path.join("amendments"), [0; 12]).expect("a file");
-    let ran = run(&["example", "twin", text(&place.path)]);
-    assert_eq!((ran.status, ran.out.as_str()), (2, ""));
-    assert!(ran.errors.contains("/amendments: "), "{}", ran.errors);
-    assert!(!place.path.join("cells").exists());
+fn no_example_is_written_beside_amendments_or_a_calendar_of_another_survey() {
+    for name in ["amendments", "calendar"] {
+        let place = Place::new(&format!("beside-{name}"));
+        fs::write(place.path.join(name), [0; 12]).expect("a file");
+        let ran = run(&["example", "twin", text(&place.path)]);
+        assert_eq!((ran.status, ran.out.as_str()), (2, ""));
+        assert!(ran.errors.contains(&format!("/{name}: ")), "{}", ran.errors);
+        assert!(!place.path.join("cells").exists());
+    }
 }
 
 #[test]
