@@ -17,7 +17,7 @@
 //! - a corner is 12 bytes: x, y and z (16 bits each), the sounding (binary32) and the number of the day on which it was sounded (16 bits). Corners rise
 //!   by z, then y, then x;
 //! - an amendment is a corner record too: a corner that was sounded again. There may be up to 1,000, in any order, and several for one corner;
-//! - a record of a calendar is 12 bytes: its first minute and the minute before which it ends (from and until, 32 bits each, minutes of the year), and the
+//! - a record of a calendar is 12 bytes: its first minute and the minute at which it has ended (from and until, 32 bits each, minutes of the year), and the
 //!   clearance in force meanwhile (binary32). [`draw_by_calendar`] says more.
 //!
 //! For each corner the record of the highest day holds. Among equal days an amendment beats the corner table, and a later amendment an earlier one. All
@@ -240,7 +240,7 @@ pub fn draw_to_vec(survey: Survey, clearance: f32) -> Result<Mesh, Refusal> {
 /// let survey = Survey::new(&cells, &corners);
 /// let (mut points, mut triangles) = ([0.0; 12], [0; 12]);
 ///
-/// // From day 100 on a clearance of 0, in the flood week after day 120 of 0.5, then of 0 again until day 300.
+/// // From day 100 on a clearance of 0, in the flood week from day 120 on of 0.5, then of 0 again until day 300.
 /// let day = |number: u32| 1_440 * (number - 1);
 /// let season = [
 ///     record(day(100), day(120), 0.0),

@@ -1,6 +1,6 @@
 //! Calendars, and random ones to ask at a minute: document 02, "Clearance by calendar". What must come of it is known from
 //! how they are made: the year is parted into stretches, each of which is a record or a gap, and the minute is taken from
-//! one of them; a calendar that is refused has one rule broken afterwards.
+//! one of them. What is refused is asked in a gap or beyond the year (17), or has one rule broken afterwards (16).
 
 use std::collections::BTreeSet;
 use std::iter::repeat_with;
@@ -10,7 +10,7 @@ use crate::random::Random;
 use crate::refusals::{CALENDAR, MINUTE};
 use crate::soundings::overruled;
 
-/// The minute before which every record must have ended.
+/// The latest minute at which a record may end.
 pub const YEAR_END: u32 = 527_040;
 
 /// A record of a calendar.
@@ -18,7 +18,7 @@ pub const YEAR_END: u32 = 527_040;
 pub struct Period {
     /// Its first minute.
     pub from: u32,
-    /// The minute before which it has ended.
+    /// The minute at which it has ended.
     pub until: u32,
     /// The clearance in force meanwhile.
     pub clearance: f32,
@@ -237,9 +237,9 @@ fn broken(random: &mut Random, clearance: f32) -> Asked {
     match kind {
         Kind::Overlap => overlap(random, &mut periods, number.max(1)),
         Kind::Turned => turn(random, &mut periods[number]),
+        // Behind any other record that is late the next one would begin too early as well.
         Kind::Late => {
-            let late = random.pick(&[YEAR_END + 1, YEAR_END + 1_440, 1 << 31, u32::MAX]);
-            periods[random.pick(&[number, last])].until = late;
+            periods[last].until = random.pick(&[YEAR_END + 1, YEAR_END + 1_440, 1 << 31, u32::MAX]);
         }
         _ => {}
     }

@@ -172,7 +172,7 @@ fn parts() -> Vec<Listed> {
     ]
 }
 
-/// A survey drawn by a calendar into slices of these lengths, which several checks would refuse.
+/// A survey drawn by a calendar into slices of these lengths, to see which check refuses it where several would.
 pub struct Several {
     /// The survey.
     pub survey: Survey,
@@ -196,7 +196,8 @@ impl Several {
     }
 }
 
-/// Each refusal with those that stand after it: 14, 15, 7, 16, 17, 8, 12, 9, 10.
+/// Each refusal in its order, 14, 15, 7, 16, 17, 8, 12, 9, 10: in most cases checks that stand after it would refuse too, in
+/// some it is the only one. The last case is drawn.
 pub fn several() -> Vec<Several> {
     let outside = |sounding| wet_at(&[0], &[[512; 3], FACE_CENTRES[0]], sounding);
     let unsounded = || outside(f32::NAN);

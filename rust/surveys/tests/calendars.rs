@@ -85,7 +85,7 @@ struct Rules {
     alone: fn(&Period) -> bool,
     /// Whether records may be so, that of this number after the one ahead of it.
     order: fn(&[Period], usize) -> bool,
-    /// Which records are looked at for the rules, of those that may be in force.
+    /// How many records, from the first on, are looked at for the rules, given which is in force.
     looked_at: fn(&[Period], Option<usize>) -> usize,
     /// Which clearance is taken.
     taken: fn(&[Period], usize) -> f32,
