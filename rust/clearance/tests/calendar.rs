@@ -4,12 +4,14 @@
 //! `CLEARANCE_SMALL` and `CLEARANCE_LARGE` set how many random surveys there are.
 
 mod comparing;
+mod lending;
 mod number;
 mod tables;
 
 use clearance::Counts;
-use comparing::{assert_same_slices, compiled, drawn, large, small, uncompiled};
+use comparing::{assert_same_slices, drawn, large, small};
 use drawing::Drawn;
+use lending::{compiled, uncompiled};
 use number::number;
 use surveys::calendars::{self, minute_by_minute, Asked, YEAR_END};
 use surveys::lent::{bits, Slices};

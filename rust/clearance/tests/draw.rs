@@ -5,12 +5,14 @@
 //! `CLEARANCE_SMALL` and `CLEARANCE_LARGE` set how many random surveys there are.
 
 mod comparing;
+mod lending;
 mod number;
 mod tables;
 
 use clearance::Refusal;
-use comparing::{assert_same_slices, compiled, large, small, uncompiled};
+use comparing::{assert_same_slices, large, small};
 use drawing::Drawn;
+use lending::{compiled, uncompiled};
 use number::number;
 use surveys::lent::{bits, Slices};
 use surveys::plain::Plain;

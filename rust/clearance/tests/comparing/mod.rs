@@ -1,12 +1,10 @@
 //! What the comparisons of drawings, of drawings by calendar and of volumes share.
 
-#![allow(dead_code)] // no test uses all of it
-
 use std::fmt::Debug;
 
 use clearance::{Counts, Refused};
 use drawing::Drawn;
-use surveys::lent::{bits, lend, Slices};
+use surveys::lent::{bits, Slices};
 
 /// Counts, and 0 or the number of a refusal, as the independent drawing returns them.
 pub fn drawn(number: u32, Counts { points, triangles }: Counts) -> Drawn {
@@ -16,29 +14,6 @@ pub fn drawn(number: u32, Counts { points, triangles }: Counts) -> Drawn {
 /// A refusal as the independent drawing returns it.
 pub fn refused(Refused { refusal, counts }: Refused) -> Drawn {
     drawn(refusal.number(), counts)
-}
-
-/// Lends slices of these lengths to a compiled call that draws. Only what it counts may be touched.
-pub fn compiled(
-    room: [usize; 2],
-    what: &str,
-    call: impl FnOnce(&mut [f32], &mut [u32]) -> Result<Counts, Refused>,
-) -> Slices<Drawn> {
-    uncompiled(room, what, |floats, numbers| {
-        call(floats, numbers).map_or_else(refused, |counts| drawn(0, counts))
-    })
-}
-
-/// The same for a call of the independent drawing.
-pub fn uncompiled(
-    room: [usize; 2],
-    what: &str,
-    call: impl FnOnce(&mut [f32], &mut [u32]) -> Drawn,
-) -> Slices<Drawn> {
-    lend(room[0], room[1], what, |floats, numbers| {
-        let drawn = call(floats, numbers);
-        (drawn, drawn.written())
-    })
 }
 
 /// Two calls returned the same and left the same bits in their slices.
