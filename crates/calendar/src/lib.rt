@@ -16,7 +16,7 @@ use rules::Drawn;
 use rules::Period;
 
 // What a calendar reads at a minute: a refusal's number, 16 or 17, or the clearance in force.
-pub enum Reading {
+enum Reading {
     Refused(u32),
     Clearance(f32),
 }
