@@ -1,2 +1,2 @@
+pub mod Version
 pub mod Reply
-pub mod Counts

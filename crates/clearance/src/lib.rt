@@ -2,8 +2,10 @@
 // pointer and a length.
 use rules::Answer;
 use rules::AskedEdge;
+use rules::Drawn;
 use rules::Edge;
 use rules::End;
+use rules::Water;
 use water::Reference;
 ghost use mathlib.Core.Path.{_≡_};
 ghost use mathlib.Core.Bool.{not};
@@ -19,9 +21,9 @@ ghost use Rattle.enquiry.specs.Enquiry.{lowerEnd};
 ghost use Rattle.water.specs.Corners.{referencePlace};
 ghost use Rattle.drawing.specs.Draws.{Draws};
 ghost use Rattle.volume.specs.Reckons.{drawnPart, sixfoldFrom, Reckons};
+ghost use Rattle.clearance.specs.Version.{version};
 ghost use Rattle.clearance.specs.Reply.{endNumber, replyOf, told};
 ghost use Rattle.rules.specs.declared.Answer.the-variants.{Found};
-ghost use Rattle.clearance.specs.Counts.{drawnOf, waterOf};
 
 // The answer of an enquiry as plain numbers: the number returned, whether the edge is crossing, the point's number and its place, and the wet end: 1 the
 // lower, 2 the upper, 0 where there is none.
@@ -34,23 +36,6 @@ pub struct Reply {
     pub y: f32,
     pub z: f32,
     pub wet_end: u32,
-}
-
-// What drawing returns: a number (0 if drawn) and both counts.
-#[repr(C)]
-pub struct Counts {
-    pub number: u32,
-    pub points: u32,
-    pub triangles: u32,
-}
-
-// What the call for the volume returns: a number (0 if drawn), both counts, and six times the volume in cubic sixteenths.
-#[repr(C)]
-pub struct Water {
-    pub number: u32,
-    pub points: u32,
-    pub triangles: u32,
-    pub sixfold: i64,
 }
 
 fn end_number(end: End) -> u32
@@ -104,6 +89,17 @@ fn reply_of(a: Answer) -> Reply
     }
 }
 
+// CLEARANCE_VERSION of the header that fits.
+const VERSION: u32 = 1;
+
+// The number of this version of the calls: a program sees by it that the header it was compiled with and the archive fit.
+#[no_mangle]
+pub extern "C" fn clearance_version() -> u32
+    ensures { λ r. ⌜ r ≡ version ⌝ }
+{
+    VERSION
+}
+
 // Checks a survey by itself: 0, or the number of the first refusal of 1 to 6, 14, 15 and 7, in this order, that applies.
 #[no_mangle]
 pub extern "C" fn clearance_check(cells: &[u8], corners: &[u8], amendments: &[u8]) -> u32
@@ -140,18 +136,13 @@ pub extern "C" fn clearance_draw(
     clearance: f32,
     points: &mut [f32],
     triangles: &mut [u32],
-) -> Counts
+) -> Drawn
     ensures exact { λ r. ⌜ Draws (drawAmended (now (cells .entry)) (now (corners .entry)) (now (amendments .entry)) clearance
-        (now (points .entry)) (now (triangles .entry))) (drawnOf r) (now (points .exit)) (now (triangles .exit)) ⌝ }
-    ensures closes { λ r. ⌜ (r .number ≡ 0 → ClosedIn (now (cells .entry)) (amended (now (corners .entry)) (now (amendments .entry))) clearance (drawnOf r)
+        (now (points .entry)) (now (triangles .entry))) r (now (points .exit)) (now (triangles .exit)) ⌝ }
+    ensures closes { λ r. ⌜ (r .number ≡ 0 → ClosedIn (now (cells .entry)) (amended (now (corners .entry)) (now (amendments .entry))) clearance r
         (now (points .exit)) (now (triangles .exit))) ⌝ }
 {
-    let d = drawing::draw(cells, corners, amendments, clearance, points, triangles);
-    Counts {
-        number: d.number,
-        points: d.points,
-        triangles: d.triangles,
-    }
+    drawing::draw(cells, corners, amendments, clearance, points, triangles)
 }
 
 // Draws as clearance_draw does, at the clearance that a calendar has in force at a minute.
@@ -164,16 +155,16 @@ pub extern "C" fn clearance_draw_by_calendar(
     minute: u32,
     points: &mut [f32],
     triangles: &mut [u32],
-) -> Counts
+) -> Drawn
     ensures exact { λ r. ⌜ Draws (drawByCalendar (now (cells .entry)) (now (corners .entry)) (now (amendments .entry)) (now (calendar .entry)) minute
-        (now (points .entry)) (now (triangles .entry))) (drawnOf r) (now (points .exit)) (now (triangles .exit)) ⌝ }
+        (now (points .entry)) (now (triangles .entry))) r (now (points .exit)) (now (triangles .exit)) ⌝ }
     ensures by_hand { λ r. ⌜ ((k : ℕ) → InForce (now (calendar .entry)) minute k
         → Draws (drawAmended (now (cells .entry)) (now (corners .entry)) (now (amendments .entry)) (periodAt (now (calendar .entry)) k .clearance)
-        (now (points .entry)) (now (triangles .entry))) (drawnOf r) (now (points .exit)) (now (triangles .exit))) ⌝ }
+        (now (points .entry)) (now (triangles .entry))) r (now (points .exit)) (now (triangles .exit))) ⌝ }
     ensures closes { λ r. ⌜ (r .number ≡ 0 → ClosedIn (now (cells .entry)) (amended (now (corners .entry)) (now (amendments .entry)))
-        (clearanceAt (now (calendar .entry)) minute) (drawnOf r) (now (points .exit)) (now (triangles .exit))) ⌝ }
+        (clearanceAt (now (calendar .entry)) minute) r (now (points .exit)) (now (triangles .exit))) ⌝ }
 {
-    let drawn = calendar::draw(
+    calendar::draw(
         cells,
         corners,
         amendments,
@@ -181,12 +172,7 @@ pub extern "C" fn clearance_draw_by_calendar(
         minute,
         points,
         triangles,
-    );
-    Counts {
-        number: drawn.number,
-        points: drawn.points,
-        triangles: drawn.triangles,
-    }
+    )
 }
 
 // Draws as clearance_draw does, and gives six times the volume inside, reckoned from a reference point of the box.
@@ -201,13 +187,13 @@ pub extern "C" fn clearance_volume(
     triangles: &mut [u32],
 ) -> Water
     ensures exact { λ r. ⌜ Reckons (volumeAmended (now (cells .entry)) (now (corners .entry)) (now (amendments .entry)) clearance (referencePlace reference)
-        (now (points .entry)) (now (triangles .entry))) (waterOf r) (now (points .exit)) (now (triangles .exit)) ⌝ }
+        (now (points .entry)) (now (triangles .entry))) r (now (points .exit)) (now (triangles .exit)) ⌝ }
     ensures closes { λ r. ⌜ (r .number ≡ 0 → ClosedIn (now (cells .entry)) (amended (now (corners .entry)) (now (amendments .entry))) clearance
-        (drawnPart (waterOf r)) (now (points .exit)) (now (triangles .exit))) ⌝ }
+        (drawnPart r) (now (points .exit)) (now (triangles .exit))) ⌝ }
     ensures anywhere { λ r. ⌜ (r .number ≡ 0 → (q : Place) → T (not (beyondBox q))
         → r .sixfold ≡ sixfoldFrom q (now (cells .entry)) (amended (now (corners .entry)) (now (amendments .entry))) clearance) ⌝ }
 {
-    let w = volume::reckon(
+    volume::reckon(
         cells,
         corners,
         amendments,
@@ -215,11 +201,5 @@ pub extern "C" fn clearance_volume(
         reference,
         points,
         triangles,
-    );
-    Water {
-        number: w.number,
-        points: w.points,
-        triangles: w.triangles,
-        sixfold: w.sixfold,
-    }
+    )
 }

@@ -23,4 +23,3 @@ pub mod Touching
 pub mod SmallFaces
 pub mod FaceEdges
 pub mod Around
-pub mod Examples

@@ -18,12 +18,6 @@ belowZero = 0x8000_0001
 abbrev quarter : ℕ
 quarter = 0x3e80_0000
 
--- one split, the centre wet and every other corner just awash: each of the six points lies at the dry end
-abbrev centreAwash : ℕ → ℕ → ℕ → Example
-centreAwash clearance wet dry =
-    exampleAt clearance split (at (place 512 512 512 ∷ []) wet dry) (drawing 18 24)
-    (0 ∷ 6 ∷ 8 ∷ 0 ∷ f512 ∷ f512 ∷ f1024 ∷ f512 ∷ f512 ∷ f512 ∷ 0 ∷ f512 ∷ f512 ∷ f1024 ∷ f512 ∷ f512 ∷ f512 ∷ 0 ∷ f512 ∷ f512 ∷ f1024 ∷ eight)
-
 -- on the edge along x at the origin, wet 3 at 256 and at 512, and dry -1 at 0
 abbrev wetPart : Soundings
 wetPart = at (place 256 0 0 ∷ place 512 0 0 ∷ []) three minusOne
@@ -31,15 +25,10 @@ wetPart = at (place 256 0 0 ∷ place 512 0 0 ∷ []) three minusOne
 unfoldable pub awash : List Example
 unfolding eight twins
 awash =
-    centreAwash 0 one 0 ∷
-    centreAwash 0 one minusZero ∷
-    centreAwash minusZero one 0 ∷
-    centreAwash one two one ∷
     -- every corner awash: no points; the same at the greatest clearance
     example split (λ p. 0) (drawing 3 3) (0 ∷ 0 ∷ 0 ∷ untouched 3 3) ∷
     exampleAt greatest leaf (λ p. greatest) (drawing 3 3) (0 ∷ 0 ∷ 0 ∷ untouched 3 3) ∷
-    -- the centre by the least number above the clearance: wet, and t is 1 by rounding; by the greatest below it: dry
-    example split (at (place 512 512 512 ∷ []) aboveZero minusOne) (drawing 18 24) (0 ∷ 6 ∷ 8 ∷ replicate 18 f512 ++ eight) ∷
+    -- the centre by the greatest number below the clearance: dry
     example split (at (place 512 512 512 ∷ []) belowZero minusOne) (drawing 3 3) (0 ∷ 0 ∷ 0 ∷ untouched 3 3) ∷
     -- an enquiry at the least clearance: only what lies above the least sounding is wet
     exampleAt least leaf (at (place 0 0 0 ∷ []) minusOne least) (asking 0 (place 0 0 0) 1024) (0 ∷ 0 ∷ f1024 ∷ 0 ∷ 0 ∷ 1 ∷ []) ∷

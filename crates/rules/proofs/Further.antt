@@ -1,5 +1,5 @@
--- Further surveys under the same statement: drawings and enquiries that tell wrong rules apart which the starred ones let pass; every refusal
--- from 1 to 8, and 11; and which one is given where two apply. Some more are in geometry/proofs/Examples.antt.
+-- Further surveys under the same statement: enquiries that tell wrong rules apart which the starred ones let pass; every refusal from 1 to 8, and 11; and
+-- which one is given where two apply. Drawings are in examples/proofs/Drawings.antt.
 -- Assumes nothing.
 use Prim.Native.Nat.{ℕ, _+_, _-_, _*_}
 use mathlib.Core.List.{List, [], _∷_, _++_}
@@ -59,16 +59,11 @@ refused n s f = refusedAt 0 n s f
 abbrev pub refusedTable : ℕ → Shape → List ℕ → Example
 refusedTable n s t = record { cells = s .cells; corners = t; clearance = 0; call = drawing 3 3; answer = n ∷ 0 ∷ 0 ∷ untouched 3 3 }
 
--- ---- drawings and enquiries
+-- ---- enquiries
 
-unfoldable pub drawings : List Example
-unfolding twoPairs twins
-drawings =
-    -- wet 2 and dry -1: a place reckoned from the lower end would round otherwise
-    example twoPairs (at (place 64 512 512 ∷ place 256 512 512 ∷ []) two minusOne) (drawing 24 24)
-    (0 ∷ 8 ∷ 8 ∷ 0x41aa_aaab ∷ f512 ∷ f512 ∷ 0x42d5_5555 ∷ f512 ∷ f512 ∷ 0x432a_aaab ∷ f512 ∷ f512 ∷ 0x43d5_5555 ∷ f512 ∷ f512 ∷
-    f256 ∷ 0x43d5_5555 ∷ f512 ∷ f64 ∷ 0x43ea_aaab ∷ f512 ∷ f256 ∷ f512 ∷ 0x43d5_5555 ∷ f64 ∷ f512 ∷ 0x43ea_aaab ∷
-    0 ∷ 1 ∷ 7 ∷ 2 ∷ 3 ∷ 6 ∷ 0 ∷ 5 ∷ 1 ∷ 2 ∷ 4 ∷ 3 ∷ 3 ∷ 4 ∷ 6 ∷ 2 ∷ 6 ∷ 4 ∷ 0 ∷ 7 ∷ 5 ∷ 1 ∷ 5 ∷ 7 ∷ []) ∷
+unfoldable pub enquiries : List Example
+unfolding twins
+enquiries =
     -- the point of an odd divided edge is that of its odd half, placed on that half: wet 3 at 0, dry -1 at 256 and at 512
     example twins (at (place 0 0 0 ∷ []) three minusOne) (asking 0 (place 0 0 0) 512) (0 ∷ 0 ∷ 0x4340_0000 ∷ 0 ∷ 0 ∷ 1 ∷ []) ∷
     -- a divided edge that is even, though its halves are odd
@@ -118,7 +113,8 @@ refusals =
     example leaf oneWet (asking 0 (place 0 0 0) 1000) (11 ∷ []) ∷
     example leaf oneWet (asking 0 (place 0 0 0) 512) (11 ∷ []) ∷ []
 
--- Of two refusals that both apply, the one checked first is given: here the lower number; 12, which is checked between 8 and 9, is in OpenAtBox.antt. No
+-- Of two refusals that both apply, the one checked first is given: here the lower number; 9 and 10 are in
+-- examples/proofs/Drawings.antt, and 12, which is checked between 8 and 9, is in OpenAtBox.antt. No
 -- survey that passes 7 can have 8 and 9, or 8 and 10, apply: at a clearance that is refused by 8 all its corners are dry, or all are wet, so it has no point,
 -- and no slice is too short.
 unfoldable pub lowest : List Example
@@ -133,8 +129,6 @@ lowest =
     refusedAt notANumber 7 leaf (λ p. notANumber) ∷
     -- 7, 8, 12 and 9: one corner is wet, by a sounding beyond the greatest, at a clearance beyond it
     refusedAt beyond 7 leaf (at (place 0 0 0 ∷ []) infinity minusOne) ∷
-    -- 9 and 10
-    example split centre (drawing 17 23) (9 ∷ 6 ∷ 8 ∷ untouched 17 23) ∷
     -- 7 and 11, 8 and 11
     example leaf (λ p. notANumber) (asking 3 (place 0 0 0) 1024) (7 ∷ []) ∷
     exampleAt notANumber leaf oneWet (asking 3 (place 0 0 0) 1024) (8 ∷ []) ∷
@@ -143,9 +137,9 @@ lowest =
     exampleAt notANumber leaf (λ p. notANumber) checking (7 ∷ []) ∷ []
 
 -- Each of them gives what document 01 asks.
-pub drawings-right : Each Right drawings
-unfolding right drawings
-drawings-right = each drawings tt
+pub enquiries-right : Each Right enquiries
+unfolding right enquiries
+enquiries-right = each enquiries tt
 
 pub refusals-right : Each Right refusals
 unfolding right refusals

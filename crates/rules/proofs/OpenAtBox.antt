@@ -26,10 +26,9 @@ openings =
     besides (place 512 512 1024) ∷
     besides (place 1024 1024 1024) ∷
     besides (place 0 512 1024) ∷
-    -- a survey without a point is refused too; one whose outside is awash is not refused by 12, but here for its slices
+    -- a survey without a point is refused too; one whose outside is awash is not (examples/proofs/Drawings.antt)
     example leaf (λ p. one) (drawing 0 0) (12 ∷ 0 ∷ 0 ∷ []) ∷
-    exampleAt one split (at (place 512 512 512 ∷ []) three one) (drawing 0 0) (9 ∷ 6 ∷ 8 ∷ []) ∷
-    -- wet by the clearance: the same soundings at clearance 0 are drawn, in Starred.antt
+    -- wet by the clearance: the same soundings at clearance 0 are drawn (`centreWet` in Starred.antt)
     exampleAt minusTwo split (at (place 512 512 512 ∷ []) one minusOne) (drawing 0 0) (12 ∷ 0 ∷ 0 ∷ []) ∷
     -- 7 and 12, 8 and 12: the lower number; 12, 9 and 10: 12, with no counts
     refused 7 leaf (at (place 0 0 0 ∷ []) one notANumber) ∷

@@ -1,4 +1,4 @@
--- Examples of document 02, request 4: check 13 among the others. Volumes that can be said by hand are in volume/proofs/Examples.antt.
+-- Examples of document 02, request 4: check 13 among the others. Volumes that can be said by hand are in examples/proofs/Volumes.antt.
 -- Assumes nothing.
 use Prim.Native.Nat.{ℕ}
 use mathlib.Core.Path.{_≡_}

@@ -44,6 +44,7 @@ pub enum Answer {
 }
 
 // What drawing returns: a number (0 if drawn) and both counts.
+#[repr(C)]
 pub struct Drawn {
     pub number: u32,
     pub points: u32,
@@ -51,6 +52,7 @@ pub struct Drawn {
 }
 
 // What the call for the volume returns: a number (0 if drawn), both counts, and six times the volume in cubic sixteenths. Document 02, request 4.
+#[repr(C)]
 pub struct Water {
     pub number: u32,
     pub points: u32,

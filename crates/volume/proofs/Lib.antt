@@ -3,5 +3,4 @@ pub mod References
 pub mod Slices
 pub mod Reckoned
 pub mod Laws
-pub mod Examples
 pub mod Amended

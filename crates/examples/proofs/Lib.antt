@@ -1,0 +1,3 @@
+pub mod Starred
+pub mod Drawings
+pub mod Volumes
