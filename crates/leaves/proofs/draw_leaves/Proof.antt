@@ -1,6 +1,6 @@
 -- `leaves::draw_leaves` meets its contract. The loop's invariant: the triangles of the records before the one at hand are drawn. The measure is how many
 -- records are to come.
-use Prim.Native.Nat.{_-_, _/_, _≤_}
+use Prim.Native.Nat.{_-_, _/_, _≤_, _<_}
 use mathlib.Core.Path.{_≡_, refl, sym, ap, _∙_}
 use lib.ListN.{length}
 use Rattle.leaves.specs.Leaves.{Ready, survey, Drew}
@@ -74,7 +74,8 @@ add-count c =
     let l = t .before in
     let s = start l in
     let d = s .pre in
-    let most = count-room (s .args .cells .now) (d .corners) (d .clearance) (d .passed) (l .loop .n) (t .loop-test .taken) (d .limit) _ _ _ _ _ _ _ _
+    let below : l .loop .n < length (s .args .cells .now) / 4 = omega (arith, t .loop-test .taken) in
+    let most = count-room (s .args .cells .now) (d .corners) (d .clearance) (d .passed) (l .loop .n) below (d .limit) _ _ _ _ _ _ _ _
     (drew l d) (r .draw-record .ensures (ready l d)) in
     omega arith
 
@@ -89,9 +90,10 @@ loop-again c =
     let r = c .before .before .before .before in
     let t = turn r in
     let l = t .before in
-    let a = start l .args in (
-      omega (arith, t .loop-test .taken),
-      λ d. drew-more (a .cells .now) (d .corners) (d .clearance) (d .passed) (l .loop .n) (t .loop-test .taken) (d .limit) _ _ _ _ _ _ _ _ (drew l d)
+    let a = start l .args in
+    let below : l .loop .n < length (a .cells .now) / 4 = omega (arith, t .loop-test .taken) in (
+      omega arith,
+      λ d. drew-more (a .cells .now) (d .corners) (d .clearance) (d .passed) (l .loop .n) below (d .limit) _ _ _ _ _ _ _ _ (drew l d)
           (r .draw-record .ensures (ready l d)) _ (r .before .before .before .filled .ensures) refl,
     )
 
