@@ -13,7 +13,7 @@ returns : tie.Need-returns
 returns c = rw (c .enum-told .given .1)
 
 returns-2 : tie.Need-returns-2
-returns-2 c = rw (c .enum-told-2 .given .1)
+returns-2 c = rw (c .enum-told2 .given .1)
 
 pub end-number-spec : {M : Type 1} → statement M
 end-number-spec = tie.close (tie.spec enum-told enum-told-2 returns returns-2)
