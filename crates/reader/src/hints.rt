@@ -1,6 +1,6 @@
 // Hints for the look-up: which record may be at the place with a key. Hints only guess, and no corner byte is looked at for a guess. The reader believes a
 // guess only if that record has the key, and else it searches. So nothing need be known of what stands in the hints, and nothing is promised of it. There are
-// 8,192 hints, which are four pages (see docs/ARCHITECTURE.md, "To do", for why not more), or 1,024, which are sooner cleared.
+// 8,192 hints, which are four pages (see docs/ARCHITECTURE.md, "Beside the proofs", for why not more), or 1,024, which are sooner cleared.
 //
 // A hint is the number of a record plus 8,192 times a tag of three bits, by which most hints for other keys are passed over. 65,535 stands for a free one.
 ghost use mathlib.Core.Path.{_≡_};
@@ -49,9 +49,10 @@ fn enter(hints: &mut [u16], mix: u64, k: u16)
     }
 }
 
-// Enters every record of a corner table as a hint.
+// Enters every record of a corner table as a hint. There are as many hints as before: no more need be known of them.
 pub fn fill(corners: &[u8], hints: &mut [u16])
     requires { ⌜ (length (now corners) ≤ cornerLimit) × (1024 ≤ length (now hints)) ⌝ }
+    ensures { λ _. ⌜ length (now (hints .exit)) ≡ length (now (hints .entry)) ⌝ }
 {
     let count = corners.len() / records::SIZE;
     let mut k: usize = 0;

@@ -1,4 +1,4 @@
--- `reader::hints::fill` reads inside the corner table and writes inside the hints.
+-- `reader::hints::fill` reads inside the corner table and writes inside the hints, whose length stays.
 use Prim.Native.Nat.{_-_, _≤_}
 use mathlib.Core.Path.{_≡_}
 use lib.ListN.{length}
