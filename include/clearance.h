@@ -13,6 +13,9 @@
  *
  * The archive is for x86-64 Linux and needs of the C library only memset and its like. examples/c/draw.c is a whole program.
  *
+ * A header and an archive fit if CLEARANCE_VERSION is what clearance_version() returns. The linker does not see to that: a program that was compiled with
+ * an older header may link and yet lend its slices in the wrong places. So compare the two once, before any other call.
+ *
  * THE TABLES
  *
  * All are records of one size without a header, little-endian.
@@ -100,6 +103,9 @@
 extern "C" {
 #endif
 
+/* The number of the calls below. It goes up by 1 with every change of what a call takes, returns or refuses, and with every call that is added. */
+#define CLEARANCE_VERSION 1
+
 /* The size of a corner record, and of an amendment, in bytes. */
 #define CLEARANCE_CORNER_BYTES 12
 
@@ -132,6 +138,35 @@ enum clearance_refusal {
     CLEARANCE_CALENDAR = 16, /* the calendar is not whole records or breaks a rule of calendars */
     CLEARANCE_MINUTE = 17 /* the minute is in no record of the calendar */
 };
+
+/* The words of a number that was returned: those beside it in enum clearance_refusal. */
+static inline const char *clearance_words(uint32_t number)
+{
+    switch (number) {
+    case 0: return "nothing is refused";
+    case CLEARANCE_CELL_TABLE: return "the cell table is empty, not whole records, or over 8,196 bytes";
+    case CLEARANCE_CORNER_TABLE: return "the corner table is empty, not whole records, or over 58,464 bytes";
+    case CLEARANCE_CELL_ENTRY: return "a cell entry or the record count breaks the rule of the cell table";
+    case CLEARANCE_TOO_DEEP: return "a cell of depth 10 is split";
+    case CLEARANCE_CORNER_ORDER: return "corner records don't rise strictly";
+    case CLEARANCE_CORNER_SET: return "a cell's corner is missing, or a record is no cell's corner";
+    case CLEARANCE_SOUNDING: return "a sounding in force is not finite or beyond ±1,048,576";
+    case CLEARANCE_CLEARANCE: return "the clearance is not finite or beyond ±1,048,576";
+    case CLEARANCE_POINT_SLICE: return "the point slice is too short";
+    case CLEARANCE_TRIANGLE_SLICE: return "the triangle slice is too short";
+    case CLEARANCE_NO_EDGE: return "no cell has this edge";
+    case CLEARANCE_OPEN_AT_BOX: return "the pool runs out of the surveyed box (a corner on an outer face is wet)";
+    case CLEARANCE_REFERENCE: return "a coordinate of the reference point is above 1,024";
+    case CLEARANCE_AMENDMENT_TABLE: return "the amendment table is not whole records or over 12,000 bytes";
+    case CLEARANCE_AMENDMENT_PLACE: return "an amendment is at no cell's corner";
+    case CLEARANCE_CALENDAR: return "the calendar is not whole records or breaks a rule of calendars";
+    case CLEARANCE_MINUTE: return "the minute is in no record of the calendar";
+    default: return "no refusal has this number";
+    }
+}
+
+/* The number CLEARANCE_VERSION of the header that the archive belongs to. */
+uint32_t clearance_version(void);
 
 /*
  * Checks a survey by itself. Returns 0, or the first refusal that applies. A survey that passes may still be refused for drawing by 12: whether a corner

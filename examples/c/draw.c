@@ -1,8 +1,11 @@
 /*
- * Draws the survey in a directory, and prints the listing of the documents' drawing program: points and triangles, or `refused` and a number. The files
- * are `cells`, `corners`, `amendments` and `clearance`; a missing file counts as empty, and one that can't be read ends the program. The slices are as long as the drawing needs.
+ * Draws the survey in a directory, and prints the listing of the documents' drawing program: points and triangles, or `refused` and a number, with its
+ * words on standard error. The files are `cells`, `corners`, `amendments` and `clearance`; a missing file counts as empty, and one that can't be read ends
+ * the program. The slices are as long as the drawing needs.
  *
- *     cc -I include examples/c/draw.c target/staticlib/libclearance.a -o draw && ./draw examples/twin
+ * The exit status is 0 if the survey is drawn and 1 if it is refused, or anything else is wrong. (The documents' program ends with 0 on refusals too.)
+ *
+ *     cc -I include examples/c/draw.c target/staticlib/libclearance.a -o target/draw && target/draw examples/twin
  */
 #include <errno.h>
 #include <inttypes.h>
@@ -121,6 +124,7 @@ static void print_listing(const struct drawing *drawing)
 {
     if (drawing->counts.number != 0) {
         printf("refused %" PRIu32 "\n", drawing->counts.number);
+        fprintf(stderr, "draw: %s\n", clearance_words(drawing->counts.number));
         return;
     }
     printf("%" PRIu32 " %" PRIu32 "\n", drawing->counts.points, drawing->counts.triangles);
@@ -130,6 +134,9 @@ static void print_listing(const struct drawing *drawing)
 
 int main(int count, char **arguments)
 {
+    if (clearance_version() != CLEARANCE_VERSION) {
+        fail("the archive does not fit the header");
+    }
     static struct survey survey;
     const char *directory = count > 1 ? arguments[1] : ".";
     survey.cells_length = read_file(directory, "cells", survey.cells, sizeof survey.cells);
@@ -141,5 +148,5 @@ int main(int count, char **arguments)
     print_listing(&drawing);
     free(drawing.points);
     free(drawing.triangles);
-    return EXIT_SUCCESS;
+    return drawing.counts.number == 0 ? EXIT_SUCCESS : EXIT_FAILURE;
 }

@@ -1,7 +1,7 @@
 /*
  * The calls from C on a box of one leaf and on one that is split once, with slices of no elements at NULL among them: layouts of arguments and results,
- * every field, amendments, what is untouched. Ends with status 1 and names the line of the first difference. With an argument it lends a call more bytes
- * than there are, for valgrind to see.
+ * every field, amendments, what is untouched, the version and the words. Ends with status 1 and names the line of the first difference. With an argument
+ * it lends a call more bytes than there are, for valgrind to see.
  */
 #include <stdio.h>
 #include <stdlib.h>
@@ -245,6 +245,20 @@ static void trespass(const uint8_t *corners)
     free(short_table);
 }
 
+/* The header and the archive fit, and each number has words of its own. */
+static void version_and_words(void)
+{
+    EXPECT(clearance_version() == CLEARANCE_VERSION);
+    EXPECT(strcmp(clearance_words(0), "nothing is refused") == 0);
+    EXPECT(strcmp(clearance_words(CLEARANCE_MINUTE + 1), "no refusal has this number") == 0);
+    EXPECT(strcmp(clearance_words(UINT32_MAX), "no refusal has this number") == 0);
+    for (uint32_t number = 1; number <= CLEARANCE_MINUTE + 1; number++) {
+        for (uint32_t before = 0; before < number; before++) {
+            EXPECT(strcmp(clearance_words(number), clearance_words(before)) != 0);
+        }
+    }
+}
+
 static void layouts(void)
 {
     EXPECT(sizeof(struct clearance_edge) == 20 && sizeof(struct clearance_reference) == 12);
@@ -261,6 +275,7 @@ int main(int count, char **arguments)
     uint8_t *dry = leaf_corners(-3.0f);
     uint8_t *middle_wet = split_corners(3.0f, 0);
     uint8_t *middle_unsounded = split_corners(not_a_number, 300);
+    version_and_words();
     layouts();
     empty_tables(wet);
     open_at_box(leaf(wet));

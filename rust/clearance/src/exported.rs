@@ -51,6 +51,8 @@ pub struct Water {
 }
 
 extern "C" {
+    fn clearance_version() -> u32;
+
     fn clearance_check(
         cells: *const u8,
         cells_length: usize,
@@ -115,6 +117,11 @@ extern "C" {
         triangles: *mut u32,
         triangles_length: usize,
     ) -> Water;
+}
+
+pub fn version() -> u32 {
+    // SAFETY: the call takes nothing and returns a number.
+    unsafe { clearance_version() }
 }
 
 pub fn check(Survey { cells, corners, amendments }: Survey) -> u32 {

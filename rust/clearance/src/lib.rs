@@ -84,6 +84,19 @@ pub use outputs::{Counts, Edge, End, Mesh, Refused, Water};
 pub use refusal::Refusal;
 pub use survey::Survey;
 
+/// The number of the calls that this crate makes, as `CLEARANCE_VERSION` in the C header. It goes up with every change of what a call takes, returns or
+/// refuses, and with every call that is added.
+pub const VERSION: u32 = 1;
+
+/// The number of the calls that the archive has. It is [`VERSION`], unless `CLEARANCE_LIB` named another archive when this crate was built.
+///
+/// ```
+/// assert_eq!(clearance::version(), clearance::VERSION);
+/// ```
+pub fn version() -> u32 {
+    exported::version()
+}
+
 /// Checks a survey by itself. It may pass and yet not be drawn, since at some clearances a corner on an outer face is wet.
 ///
 /// ```

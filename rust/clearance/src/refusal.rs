@@ -8,6 +8,8 @@ use std::fmt;
 /// So refusals compare by number and not by the order of checks: only [`PointSlice`](Refusal::PointSlice) and
 /// [`TriangleSlice`](Refusal::TriangleSlice) say that there is a drawing, and of the others that drawing gives 12 and 14 to 17 are above both.
 ///
+/// More refusals may come with more calls, so a `match` needs an arm for the rest.
+///
 /// ```
 /// use clearance::{Refusal, Survey};
 ///
@@ -18,6 +20,7 @@ use std::fmt;
 /// ```
 #[derive(Clone, Copy, Debug, PartialEq, Eq, PartialOrd, Ord, Hash)]
 #[repr(u32)]
+#[non_exhaustive]
 pub enum Refusal {
     /// The cell table is empty, not whole records (4 bytes each), or over 8,196 bytes.
     CellTable = 1,
@@ -59,7 +62,7 @@ pub enum Refusal {
 
 impl Refusal {
     /// All refusals, by rising number.
-    pub const ALL: [Refusal; 17] = [
+    pub const ALL: &'static [Refusal] = &[
         Refusal::CellTable,
         Refusal::CornerTable,
         Refusal::CellEntry,
@@ -93,7 +96,7 @@ impl Refusal {
     /// assert_eq!(Refusal::from_number(0), None);
     /// ```
     pub fn from_number(number: u32) -> Option<Refusal> {
-        Refusal::ALL.into_iter().find(|refusal| refusal.number() == number)
+        Refusal::ALL.iter().copied().find(|refusal| refusal.number() == number)
     }
 }
 

@@ -1,8 +1,38 @@
-//! The C header and the Rust library name the same refusals, by number and words, and the same ends by number.
+//! The C header, the archive and the Rust library have the same version and name the same refusals, by number and words, and the same ends by number.
 
-use clearance::{End, Refusal};
+use std::path::Path;
+use std::process::Command;
+
+use clearance::{End, Refusal, VERSION};
 
 const HEADER: &str = include_str!("../../../include/clearance.h");
+
+/// What the header says in a C program: its version, and the words of each number, a line each.
+fn said_in_c(numbers: &[u32]) -> String {
+    let root = Path::new(env!("CARGO_MANIFEST_DIR")).join("../..");
+    let program = Path::new(env!("CARGO_TARGET_TMPDIR")).join("words");
+    let mut compiler = Command::new("cc");
+    compiler.args(["-std=c99", "-Wall", "-Wextra", "-Wpedantic", "-Werror"]);
+    compiler.arg("-I").arg(root.join("include")).arg(root.join("tests/c/words.c")).arg("-o").arg(&program);
+    assert!(compiler.status().expect("the C compiler (cc) runs").success());
+    let said = Command::new(program).args(numbers.iter().map(u32::to_string)).output().expect("it runs");
+    assert!(said.status.success());
+    String::from_utf8(said.stdout).expect("text")
+}
+
+#[test]
+fn the_archive_fits() {
+    assert_eq!(clearance::version(), VERSION);
+}
+
+#[test]
+fn the_header_has_the_version_and_the_words() {
+    let numbers: Vec<u32> = Refusal::ALL.iter().map(|refusal| refusal.number()).collect();
+    let words: String = Refusal::ALL.iter().map(|refusal| format!("{refusal}\n")).collect();
+    assert_eq!(said_in_c(&numbers), format!("{VERSION}\n{words}"));
+    let none = "no refusal has this number\n";
+    assert_eq!(said_in_c(&[0, 18, u32::MAX]), format!("{VERSION}\nnothing is refused\n{none}{none}"));
+}
 
 /// A refusal as the header's enum has it: `CLEARANCE_CELL_TABLE = 1, /* words */`; the last has no comma.
 fn line_of(refusal: Refusal, comma: &str) -> String {
@@ -40,8 +70,8 @@ fn the_header_has_the_ends() {
 
 #[test]
 fn numbers_and_refusals_are_one_to_one() {
-    let numbers = Refusal::ALL.map(Refusal::number);
-    assert_eq!(numbers, [1, 2, 3, 4, 5, 6, 7, 8, 9, 10, 11, 12, 13, 14, 15, 16, 17]);
-    assert_eq!(numbers.map(Refusal::from_number), Refusal::ALL.map(Some));
+    let numbers = Refusal::ALL.iter().map(|refusal| refusal.number());
+    assert!(numbers.clone().eq(1..=17));
+    assert!(numbers.map(Refusal::from_number).eq(Refusal::ALL.iter().copied().map(Some)));
     assert_eq!([0, 18, u32::MAX].map(Refusal::from_number), [None; 3]);
 }
