@@ -48,6 +48,11 @@ pub fn count(name: &'static str) -> Arg {
     number(name).required(false).long(name).value_name("N")
 }
 
+/// An option with a decimal number, of which the nearest binary32 is taken; it may be left out.
+pub fn decimal(name: &'static str) -> Arg {
+    count(name).value_parser(fitting::<f32>)
+}
+
 /// An option with the three coordinates of a place; 0 0 0 if it is left out.
 pub fn place(name: &'static str) -> Arg {
     let option = Arg::new(name).long(name).num_args(3).allow_negative_numbers(true);
@@ -81,17 +86,16 @@ pub fn words(error: &Error) -> String {
         Some(ContextValue::Strings(values)) => values.first().map_or("", String::as_str),
         _ => "",
     };
-    let given = value(ContextKind::InvalidArg);
-    // Arguments by their names: clap has <DIR>, [DIR] where it may be left out, --turn <DEGREES> and --reference <X> <Y> <Z>.
-    let (name, needs) = given.split_once(" <").unwrap_or((given, ""));
-    let name = name.trim_matches(['<', '>', '[', ']']);
+    let [given, prior] = [ContextKind::InvalidArg, ContextKind::PriorArg].map(value);
+    let [(name, needs), (prior_name, _)] = [given, prior].map(name_and_needs);
     match error.kind() {
         ErrorKind::MissingSubcommand => "a command is missing".to_owned(),
         ErrorKind::InvalidSubcommand => format!("unknown command {}", value(ContextKind::InvalidSubcommand)),
         ErrorKind::MissingRequiredArgument => format!("{name} is missing"),
         ErrorKind::UnknownArgument if given.starts_with('-') => format!("unknown option {given}"),
         ErrorKind::UnknownArgument => format!("one argument too many: {given}"),
-        ErrorKind::ArgumentConflict => format!("{name} is there twice"),
+        ErrorKind::ArgumentConflict if given == prior => format!("{name} is there twice"),
+        ErrorKind::ArgumentConflict => format!("{name} does not go with {prior_name}"),
         ErrorKind::InvalidValue | ErrorKind::WrongNumberOfValues => {
             format!("{name} needs {}", needs.replace(['<', '>'], ""))
         }
@@ -102,6 +106,12 @@ pub fn words(error: &Error) -> String {
         ErrorKind::InvalidUtf8 => "a number is not written in UTF-8".to_owned(),
         _ => error.to_string(),
     }
+}
+
+/// An argument's name and what it needs: clap has <DIR>, [DIR] where it may be left out, --turn <DEGREES> and --reference <X> <Y> <Z>.
+fn name_and_needs(given: &str) -> (&str, &str) {
+    let (name, needs) = given.split_once(" <").unwrap_or((given, ""));
+    (name.trim_matches(['<', '>', '[', ']']), needs)
 }
 
 #[cfg(test)]
@@ -141,10 +151,24 @@ mod tests {
     }
 
     #[test]
+    fn decimals_are_the_nearest_binary32() {
+        let cases = [("24", 24.0), ("0.1", 0.1), ("-3.5e-2", -0.035), ("-0", -0.0), ("inf", f32::INFINITY)];
+        for (text, clearance) in cases {
+            let read = read(&[decimal("clearance")], &["--clearance", text]).unwrap();
+            assert_eq!(taken::<f32>(&read, "clearance").to_bits(), clearance.to_bits(), "{text}");
+        }
+    }
+
+    #[test]
     fn what_does_not_fit_is_named() {
         let pair = [path("NAME").required(false).requires("DIR"), path("DIR").required(false)];
         let dated = [file("calendar").requires("minute"), count("minute").requires("calendar")];
-        let cases: [(&[Arg], &[&str], &str); 20] = [
+        let either = [
+            decimal("clearance").conflicts_with_all(["calendar", "minute"]),
+            dated[0].clone(),
+            dated[1].clone(),
+        ];
+        let cases: [(&[Arg], &[&str], &str); 25] = [
             (&[path("DIR"), path("OUT")], &["here"], "OUT is missing"),
             (&pair, &["here"], "DIR is missing"),
             (&[path("DIR")], &["here", "there"], "one argument too many: there"),
@@ -166,6 +190,15 @@ mod tests {
                 &dated,
                 &["--calendar", "here", "--minute", "4294967296"],
                 "--minute: 4294967296 is no number that fits",
+            ),
+            (&either, &["--clearance"], "--clearance needs N"),
+            (&either, &["--clearance", "--minute"], "--clearance needs N"),
+            (&either, &["--clearance", "24,0"], "--clearance: 24,0 is no number that fits"),
+            (&either, &["--clearance", "1", "--clearance", "1"], "--clearance is there twice"),
+            (
+                &either,
+                &["--clearance", "1", "--calendar", "here", "--minute", "3"],
+                "--clearance does not go with --calendar",
             ),
             (&[number("X")], &["-1"], "X: -1 is no number that fits"),
             (&[axis("AXIS")], &["w"], "AXIS: w is no number that fits"),

@@ -14,7 +14,9 @@ use surveys::Survey;
 use crate::arguments::{axis, count, degrees, flag, number, path, place, taken, taken_place, words};
 use crate::calendar;
 use crate::convert;
-use crate::drawing::{directory, directory_and_calendar, Subject, DIRECTORY, MINUTE};
+use crate::drawing::{
+    self, directory, directory_and_calendar, directory_and_clearance, Subject, DIRECTORY, MINUTE,
+};
 use crate::examples;
 use crate::facts;
 use crate::failure::{refused, Failure};
@@ -56,11 +58,21 @@ fn directory_alone() -> Vec<Arg> {
     vec![path(DIRECTORY)]
 }
 
-/// The help of a calendar and a minute in place of the clearance.
+/// The help of a clearance in place of that in its file.
+macro_rules! clearance_help {
+    () => {
+        "\n--clearance N  take this clearance, a decimal number, as the nearest binary32; the file clearance is not read then"
+    };
+}
+
+/// The help of a clearance, or of a calendar and a minute, in place of the clearance in its file.
 macro_rules! calendar_help {
     () => {
-        "\n--calendar FILE --minute N  draw at the clearance that is in force at this minute of the year, by the calendar in FILE; the\n\
-         \x20                           file clearance is not read then. 16 refuses a calendar that breaks a rule, 17 a minute in no record"
+        concat!(
+            clearance_help!(),
+            "\n--calendar FILE --minute N  draw at the clearance that is in force at this minute of the year, by the calendar in FILE; the\n\
+             \x20                           file clearance is not read then. 16 refuses a calendar that breaks a rule, 17 a minute in no record"
+        )
     };
 }
 
@@ -92,14 +104,15 @@ const COMMANDS: [Command; 11] = [
     },
     Command {
         name: "draw",
-        arguments: "DIR [--calendar FILE --minute N]",
+        arguments: "DIR [--clearance N | --calendar FILE --minute N]",
         summary: "list the points and triangles of the surface",
         help: concat!(
             "Prints the listing of document 01's drawing program: the counts; a line 'v' for each point with the bits\n\
              of x, y and z in hexadecimal; a line 't' for each triangle with its point numbers. On refusal prints\n\
              'refused' and the number, and the words on standard error. There is no limit on points and triangles.\n\
              A pool that runs out of the surveyed box (a corner on an outer face is wet) is refused by 12, so what is drawn\n\
-             is closed. A missing file of DIR counts as empty, as it does for that program.",
+             is closed. A missing file of DIR counts as empty, as it does for that program. But four bytes in the file\n\
+             clearance that spell a number are an error, which that program would take for a binary32 next to 0.",
             calendar_help!()
         ),
         takes: directory_and_calendar,
@@ -107,41 +120,53 @@ const COMMANDS: [Command; 11] = [
     },
     Command {
         name: "enquire",
-        arguments: "DIR AXIS X Y Z LENGTH",
+        arguments: "DIR AXIS X Y Z LENGTH [--clearance N]",
         summary: "ask about one edge",
-        help: "Asks about the edge along AXIS (x, y, z or 0, 1, 2) from the lower end (X, Y, Z) over LENGTH. Prints 'even',\n\
-               or 'crossing', the point's number, its x, y and z, and 'lower end wet' or 'upper end wet'. A pool that runs\n\
-               out of the surveyed box is answered for too. A missing file of cells, corners or clearance is an error.",
-        takes: || [vec![path(DIRECTORY), axis(AXIS)], ["X", "Y", "Z", "LENGTH"].map(number).to_vec()].concat(),
+        help: concat!(
+            "Asks about the edge along AXIS (x, y, z or 0, 1, 2) from the lower end (X, Y, Z) over LENGTH. Prints 'even',\n\
+             or 'crossing', the point's number, its x, y and z, and 'lower end wet' or 'upper end wet'. A pool that runs\n\
+             out of the surveyed box is answered for too. A missing file of cells, corners or clearance is an error.",
+            clearance_help!()
+        ),
+        takes: || {
+            let edge = [axis(AXIS)].into_iter().chain(["X", "Y", "Z", "LENGTH"].map(number));
+            directory_and_clearance().into_iter().chain(edge).collect()
+        },
         run: enquire,
     },
     Command {
         name: "info",
-        arguments: "DIR",
+        arguments: "DIR [--clearance N]",
         summary: "count cells, corners, points and triangles; give the volume",
-        help: "Prints the cell records, the greatest depth, the leaves, corners, points and triangles, and the volume inside\n\
-               the surface in cubic units, as 'volume' gives it; the whole box has 1073741824. A pool that runs out of the\n\
-               surveyed box is refused whole, by 12: nothing of it is counted. Where there are amendments, they are counted too,\n\
-               and those in force. A missing file of cells, corners or clearance is an error.",
-        takes: directory_alone,
+        help: concat!(
+            "Prints the cell records, the greatest depth, the leaves, corners, points and triangles, and the volume inside\n\
+             the surface in cubic units, as 'volume' gives it; the whole box has 1073741824. A pool that runs out of the\n\
+             surveyed box is refused whole, by 12: nothing of it is counted. Where there are amendments, they are counted too,\n\
+             and those in force. A missing file of cells, corners or clearance is an error.",
+            clearance_help!()
+        ),
+        takes: directory_and_clearance,
         run: info,
     },
     Command {
         name: "volume",
-        arguments: "DIR [--reference X Y Z]",
+        arguments: "DIR [--clearance N] [--reference X Y Z]",
         summary: "give the volume of the water inside the surface",
-        help: "Prints 'volume' and the space inside the surface in cubic units, to the nearest thousandth, then 'sixfold' and six\n\
-               times the space in cubic sixteenths of a unit (a cubic unit has 4096), a whole number. For both, each coordinate of\n\
-               each point is taken down to a whole sixteenth.\n\
-               --reference X Y Z  reckon from this point of the box, in whole units (0 0 0); every point gives the same\n\
-               A coordinate above 1024 is refused by 13, and a pool that runs out of the surveyed box by 12. A missing file of\n\
-               cells, corners or clearance is an error.",
-        takes: || vec![path(DIRECTORY), place(REFERENCE)],
+        help: concat!(
+            "Prints 'volume' and the space inside the surface in cubic units, to the nearest thousandth, then 'sixfold' and six\n\
+             times the space in cubic sixteenths of a unit (a cubic unit has 4096), a whole number. For both, each coordinate of\n\
+             each point is taken down to a whole sixteenth.\n\
+             --reference X Y Z  reckon from this point of the box, in whole units (0 0 0); every point gives the same\n\
+             A coordinate above 1024 is refused by 13, and a pool that runs out of the surveyed box by 12. A missing file of\n\
+             cells, corners or clearance is an error.",
+            clearance_help!()
+        ),
+        takes: || directory_and_clearance().into_iter().chain([place(REFERENCE)]).collect(),
         run: volume,
     },
     Command {
         name: "obj",
-        arguments: "DIR [--calendar FILE --minute N]",
+        arguments: "DIR [--clearance N | --calendar FILE --minute N]",
         summary: "write the surface as Wavefront OBJ",
         help: mesh_help!("Wavefront OBJ"),
         takes: directory_and_calendar,
@@ -149,7 +174,7 @@ const COMMANDS: [Command; 11] = [
     },
     Command {
         name: "ply",
-        arguments: "DIR [--calendar FILE --minute N]",
+        arguments: "DIR [--clearance N | --calendar FILE --minute N]",
         summary: "write the surface as PLY (ascii)",
         help: mesh_help!("PLY, ascii 1.0"),
         takes: directory_and_calendar,
@@ -157,7 +182,8 @@ const COMMANDS: [Command; 11] = [
     },
     Command {
         name: "render",
-        arguments: "DIR OUT.png|OUT.svg [--calendar FILE --minute N] [--turn DEGREES] [--tilt DEGREES] [--edges] [--cells] [--inside] [--near]",
+        arguments: "DIR OUT.png|OUT.svg [--clearance N | --calendar FILE --minute N] [--turn DEGREES] [--tilt DEGREES] [--edges]\n\
+                    \x20                       [--cells] [--inside] [--near]",
         summary: "make a picture of the surface",
         help: concat!(
             "Writes a picture of the surface and the box; the name's end chooses PNG or SVG. Higher places are lighter.\n\
@@ -247,6 +273,7 @@ fn chosen(arguments: Vec<OsString>) -> Result<Printed, Failure> {
             (command.run)(arguments)
         }
         Err(help) if help.kind() == ParseErrorKind::DisplayHelp => Ok(help.to_string().into()),
+        Err(asked) if asked.kind() == ParseErrorKind::DisplayVersion => Ok(version().into()),
         Err(error) => Err(Failure::Usage(words(&error))),
     }
 }
@@ -256,7 +283,12 @@ fn command_line() -> clap::Command {
         clap::Command::new(command.name).override_help(command_help(command)).args((command.takes)())
     });
     let whole = clap::Command::new("clearance").no_binary_name(true).override_help(overview());
-    whole.subcommand_required(true).subcommands(commands)
+    whole.version(env!("CARGO_PKG_VERSION")).subcommand_required(true).subcommands(commands)
+}
+
+/// The version of the tool, and that of the calls of the library in it.
+fn version() -> String {
+    format!("clearance {}, library calls of version {}\n", env!("CARGO_PKG_VERSION"), clearance::version())
 }
 
 fn overview() -> String {
@@ -268,8 +300,9 @@ fn overview() -> String {
          corners were sounded again; without this file there are none. Of several records for a corner that of the highest day holds.\n\
          A corner is wet if its sounding is greater than the clearance; ground exactly at the clearance is dry.\n\
          A survey with a wet corner on an outer face of the box is not drawn; 'check' and 'enquire' still take it.\n\
-         Where clearances change over the year, 'draw', 'obj', 'ply' and 'render' take a calendar and a minute in place of the clearance.\n\
-         'clearance COMMAND --help' says more of a command.\n\
+         Every command that needs a clearance takes --clearance N in place of the file; where clearances change over the year, 'draw',\n\
+         'obj', 'ply' and 'render' take a calendar and a minute. A file clearance that holds a number as text is an error.\n\
+         'clearance COMMAND --help' says more of a command, 'clearance --version' the version of the tool and of the library's calls.\n\
          Exit status: 0 if all is well, 1 if something is refused, 2 if the command line or a file is wrong.\n",
         lines.collect::<String>()
     )
@@ -303,7 +336,7 @@ fn draw(arguments: &ArgMatches) -> Result<Printed, Failure> {
 
 fn enquire(arguments: &ArgMatches) -> Result<Printed, Failure> {
     let [axis, x, y, z, length] = [AXIS, "X", "Y", "Z", "LENGTH"].map(|name| *taken::<u32>(arguments, name));
-    let survey = files::read(directory(arguments), Reading::WHOLE)?;
+    let survey = drawing::survey(arguments)?;
     let edge = clearance::enquire(files::tables(&survey), survey.clearance, axis, [x, y, z], length)?;
     Ok(match edge {
         Edge::Even => String::from("even\n"),
@@ -315,11 +348,11 @@ fn enquire(arguments: &ArgMatches) -> Result<Printed, Failure> {
 }
 
 fn info(arguments: &ArgMatches) -> Result<Printed, Failure> {
-    Ok(facts::facts(&files::read(directory(arguments), Reading::WHOLE)?)?.to_string().into())
+    Ok(facts::facts(&drawing::survey(arguments)?)?.to_string().into())
 }
 
 fn volume(arguments: &ArgMatches) -> Result<Printed, Failure> {
-    let survey = files::read(directory(arguments), Reading::WHOLE)?;
+    let survey = drawing::survey(arguments)?;
     let Water { sixfold, .. } = facts::water(&survey, taken_place(arguments, REFERENCE))?;
     Ok(format!("volume   {}\nsixfold  {sixfold}\n", facts::cubic_units(sixfold)).into())
 }
@@ -364,7 +397,8 @@ fn show_calendar(arguments: &ArgMatches) -> Result<Printed, Failure> {
 fn convert(arguments: &ArgMatches) -> Result<Printed, Failure> {
     let [old, new] = [OLD, NEW].map(|name| Path::new(taken::<OsString>(arguments, name)));
     let table = files::read_file(old)?;
-    let dated = convert::dated(&table).map_err(|words| Failure::Unfit { path: old.to_path_buf(), words })?;
+    let dated = convert::dated(&table)
+        .map_err(|words| Failure::Unfit { path: old.to_path_buf(), words: words.to_owned() })?;
     files::write_new(new, &dated)?;
     Ok(String::new().into())
 }

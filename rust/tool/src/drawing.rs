@@ -1,4 +1,4 @@
-//! What a command draws: the survey of a directory, at its clearance or by a calendar.
+//! What a command draws: the survey of a directory, at its clearance, at one given by hand or by a calendar.
 
 use std::ffi::OsString;
 use std::path::{Path, PathBuf};
@@ -7,7 +7,7 @@ use clap::{Arg, ArgMatches};
 use clearance::{Mesh, Refusal};
 use surveys::Survey;
 
-use crate::arguments::{count, file, path, taken};
+use crate::arguments::{count, decimal, file, path, taken};
 use crate::failure::Failure;
 use crate::files::{self, Reading};
 
@@ -16,15 +16,36 @@ pub const DIRECTORY: &str = "DIR";
 /// The minute to draw for, or to ask a calendar at.
 pub const MINUTE: &str = "minute";
 const CALENDAR: &str = "calendar";
+const CLEARANCE: &str = "clearance";
 
 /// The directory that a command was given.
 pub fn directory(arguments: &ArgMatches) -> &Path {
     Path::new(taken::<OsString>(arguments, DIRECTORY))
 }
 
-/// What a command takes that draws: a directory, and a calendar with a minute or neither.
+/// What a command takes that needs a clearance: a directory, and a clearance or none.
+pub fn directory_and_clearance() -> Vec<Arg> {
+    vec![path(DIRECTORY), decimal(CLEARANCE)]
+}
+
+/// What a command takes that draws: a directory, and a clearance, or a calendar with a minute, or neither.
 pub fn directory_and_calendar() -> Vec<Arg> {
-    vec![path(DIRECTORY), file(CALENDAR).requires(MINUTE), count(MINUTE).requires(CALENDAR)]
+    vec![
+        path(DIRECTORY),
+        decimal(CLEARANCE).conflicts_with_all([CALENDAR, MINUTE]),
+        file(CALENDAR).requires(MINUTE),
+        count(MINUTE).requires(CALENDAR),
+    ]
+}
+
+/// The clearance on the command line, if there is one.
+fn by_hand(arguments: &ArgMatches) -> Option<f32> {
+    arguments.get_one(CLEARANCE).copied()
+}
+
+/// Reads the survey that a command was given that takes a clearance but no calendar. A missing file is a failure, but for amendments.
+pub fn survey(arguments: &ArgMatches) -> Result<Survey, Failure> {
+    files::read(directory(arguments), Reading { as_program: false, clearance: by_hand(arguments) })
 }
 
 /// A survey, and what says at which clearance it is drawn.
@@ -36,7 +57,8 @@ pub struct Subject {
 }
 
 impl Subject {
-    /// Reads what a command was given. A missing file is a failure, but for amendments; the file of the clearance is not read where there is a calendar.
+    /// Reads what a command was given. A missing file is a failure, but for amendments; the file of the clearance is not read where there is a calendar or a
+    /// clearance by hand.
     pub fn read(arguments: &ArgMatches) -> Result<Subject, Failure> {
         Subject::read_with(arguments, false).map(|(subject, _)| subject)
     }
@@ -46,12 +68,13 @@ impl Subject {
         Subject::read_with(arguments, true)
     }
 
-    fn read_with(arguments: &ArgMatches, missing_is_empty: bool) -> Result<(Subject, Vec<PathBuf>), Failure> {
+    fn read_with(arguments: &ArgMatches, as_program: bool) -> Result<(Subject, Vec<PathBuf>), Failure> {
         let dated = match arguments.get_one::<OsString>(CALENDAR) {
             Some(calendar) => Some((files::read_file(Path::new(calendar))?, *taken(arguments, MINUTE))),
             None => None,
         };
-        let reading = Reading { missing_is_empty, clearance: dated.is_none() };
+        let clearance = if dated.is_some() { Some(f32::NAN) } else { by_hand(arguments) };
+        let reading = Reading { as_program, clearance };
         let survey = files::read(directory(arguments), reading)?;
         Ok((Subject { survey, dated }, files::missing(directory(arguments), reading)))
     }

@@ -22,7 +22,7 @@ pub enum Failure {
         /// The file.
         path: PathBuf,
         /// What is wrong with it.
-        words: &'static str,
+        words: String,
     },
     /// The library refused the survey, the clearance, the calendar, the minute, the edge or the reference point.
     Refused(Refusal),

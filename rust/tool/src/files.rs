@@ -24,25 +24,22 @@ pub fn tables(Survey { cells, corners, amendments, .. }: &Survey) -> clearance::
 /// How the files of a survey are read.
 #[derive(Clone, Copy)]
 pub struct Reading {
-    /// A missing file counts as empty, as it does for the documents' drawing program. Else it is a failure, since an empty table would be refused with words
+    /// As the documents' drawing program reads them: a missing file counts as empty. Else it is a failure, since an empty table would be refused with words
     /// about the table when it is the directory that is wrong. Amendments need not be there: most surveys have none.
-    pub missing_is_empty: bool,
-    /// The clearance is read. Else it is not a number, and its file need not be there.
-    pub clearance: bool,
+    pub as_program: bool,
+    /// The clearance, if it does not come from its file. Then that file is not read and need not be there.
+    pub clearance: Option<f32>,
 }
 
 impl Reading {
-    /// All is read, and must be there.
-    pub const WHOLE: Reading = Reading { missing_is_empty: false, clearance: true };
-
-    /// The tables are read, and must be there.
-    pub const TABLES: Reading = Reading { missing_is_empty: false, clearance: false };
+    /// The tables are read, and must be there. The clearance is not a number.
+    pub const TABLES: Reading = Reading { as_program: false, clearance: Some(f32::NAN) };
 }
 
 /// Reads a survey.
 pub fn read(directory: &Path, reading: Reading) -> Result<Survey, Failure> {
     let read = |name| {
-        if reading.missing_is_empty {
+        if reading.as_program {
             read_if_there(directory, name)
         } else {
             read_file(&directory.join(name))
@@ -50,15 +47,39 @@ pub fn read(directory: &Path, reading: Reading) -> Result<Survey, Failure> {
     };
     let [cells, corners] = [CELLS, CORNERS].map(read);
     let (cells, corners, amendments) = (cells?, corners?, read_if_there(directory, AMENDMENTS)?);
-    let clearance = if reading.clearance { read(CLEARANCE)? } else { Vec::new() };
-    // A clearance of another length is refusal 8, in its order, as a clearance that is not a number is.
-    let clearance = clearance.try_into().map_or(f32::NAN, f32::from_le_bytes);
+    let clearance = match reading.clearance {
+        Some(clearance) => clearance,
+        None => stored_clearance(&directory.join(CLEARANCE), &read(CLEARANCE)?, reading.as_program)?,
+    };
     Ok(Survey { cells, corners, amendments, clearance })
+}
+
+/// The clearance in the bytes of its file. One of another length is refusal 8, in its order, as a clearance that is not a number is.
+///
+/// A file in which a number is written as text is a failure. The four bytes of `24.0` or `0.5\n` are a binary32 too, next to 0 (below 1/4,096), and a drawing
+/// at that clearance would be wrong without a word. Text of another length is refused by 8 as the documents' drawing program does.
+fn stored_clearance(path: &Path, bytes: &[u8], as_program: bool) -> Result<f32, Failure> {
+    let stored = bytes.try_into().map(f32::from_le_bytes);
+    match spelled(bytes) {
+        Some(number) if stored.is_ok() || !as_program => {
+            let words = format!(
+                "holds the text {number}, and not a clearance as four bytes of binary32, little-endian; give it as --clearance {number}"
+            );
+            Err(Failure::Unfit { path: path.to_path_buf(), words })
+        }
+        _ => Ok(stored.unwrap_or(f32::NAN)),
+    }
+}
+
+/// The number that bytes spell, if they are the text of one, with a point or a comma and perhaps space around it.
+fn spelled(bytes: &[u8]) -> Option<String> {
+    let number = std::str::from_utf8(bytes.trim_ascii()).ok()?.replace(',', ".");
+    number.parse::<f32>().is_ok().then_some(number)
 }
 
 /// The files to be read that a directory lacks. It need not have amendments.
 pub fn missing(directory: &Path, reading: Reading) -> Vec<PathBuf> {
-    let names = [CELLS, CORNERS].into_iter().chain(reading.clearance.then_some(CLEARANCE));
+    let names = [CELLS, CORNERS].into_iter().chain(reading.clearance.is_none().then_some(CLEARANCE));
     let is_missing =
         |path: &PathBuf| fs::metadata(path).is_err_and(|error| error.kind() == io::ErrorKind::NotFound);
     names.map(|name| directory.join(name)).filter(is_missing).collect()

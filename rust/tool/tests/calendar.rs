@@ -7,7 +7,7 @@ use std::fs;
 use clearance::{draw_by_calendar_to_vec, draw_to_vec, Mesh, Refusal};
 use clearance_tool::calendar::words;
 use clearance_tool::files::tables;
-use common::{printed, run, Place, Ran};
+use common::{all_printed, printed, run, Place, Ran};
 use surveys::calendars::{self, table, Asked, Period, YEAR_END};
 use surveys::plain::periods;
 use surveys::seasons;
@@ -24,30 +24,24 @@ fn commands<'a>(directory: &'a str, picture: &'a str, options: &[&'a str]) -> [V
     .map(|command| [command, options.to_vec()].concat())
 }
 
-/// What these commands print, and the picture.
-fn all_printed(place: &Place, directory: &str, options: &[&str]) -> Vec<String> {
-    let picture = place.below("picture.svg");
-    let mut texts = commands(directory, &picture, options).map(|command| printed(&command)).to_vec();
-    texts.push(fs::read_to_string(picture).expect("a picture"));
-    texts
-}
-
 #[test]
 fn drawings_are_those_at_the_clearance_in_force() {
     let place = Place::new("by-calendar");
     let directory = place.example("seasons");
-    let [calendar, clearance] = ["seasons/calendar", "seasons/clearance"].map(|name| place.below(name));
+    let [calendar, clearance, picture] =
+        ["seasons/calendar", "seasons/clearance", "picture.svg"].map(|name| place.below(name));
+    let drawings = |options: &[&str]| all_printed(&commands(&directory, &picture, options), &picture);
     let asked = [(84_960, 24.0), (142_559, 24.0), (142_560, 96.0), (162_720, 24.0), (527_039, 48.0f32)];
     for (minute, in_force) in asked {
         // Another clearance stands in its file, then none.
         fs::write(&clearance, 1e9f32.to_le_bytes()).expect("a file");
         let minute = minute.to_string();
         let options = ["--calendar", &calendar, "--minute", &minute];
-        let dated = all_printed(&place, &directory, &options);
+        let dated = drawings(&options);
         fs::remove_file(&clearance).expect("the file is there");
-        assert!(all_printed(&place, &directory, &options) == dated, "minute {minute}");
+        assert!(drawings(&options) == dated, "minute {minute}");
         fs::write(&clearance, in_force.to_le_bytes()).expect("a file");
-        assert!(all_printed(&place, &directory, &[]) == dated, "minute {minute}");
+        assert!(drawings(&[]) == dated, "minute {minute}");
     }
 }
 

@@ -244,10 +244,19 @@ fn help_is_there_for_the_whole_and_for_each_command() {
 }
 
 #[test]
+fn version_is_that_of_the_tool_and_of_the_calls() {
+    let (tool, calls) = (env!("CARGO_PKG_VERSION"), clearance::VERSION);
+    let expected = format!("clearance {tool}, library calls of version {calls}\n");
+    for option in ["--version", "-V"] {
+        assert_eq!(printed(&[option]), expected);
+    }
+}
+
+#[test]
 fn wrong_command_lines_are_named() {
     let place = Place::new("wrong");
     let picture = place.below("picture.gif");
-    let cases: [(&[&str], &str); 18] = [
+    let cases: [(&[&str], &str); 21] = [
         (&[], "a command is missing"),
         (&["sound"], "unknown command sound"),
         (&["help", "sound"], "unknown command sound"),
@@ -262,6 +271,9 @@ fn wrong_command_lines_are_named() {
             "--reference: 4294967296 is no number that fits",
         ),
         (&["draw", "one", "--calendar", "two"], "--minute is missing"),
+        (&["volume", "one", "--clearance", "deep"], "--clearance: deep is no number that fits"),
+        (&["check", "one", "--clearance", "1"], "unknown option --clearance"),
+        (&["ply", "one", "--minute", "0", "--clearance", "1"], " does not go with --"),
         (&["render", "one", "two.svg", "--minute", "0"], "--calendar is missing"),
         (&["obj", "one", "--calendar", "two", "--minute", "-1"], "--minute: -1 is no number that fits"),
         (&["calendar"], "FILE is missing"),

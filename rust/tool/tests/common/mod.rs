@@ -34,6 +34,14 @@ pub fn printed(arguments: &[&str]) -> String {
     ran.out
 }
 
+/// What commands print where all is well, and the picture that one of them makes.
+pub fn all_printed(commands: &[Vec<&str>], picture: &str) -> Vec<String> {
+    let texts = commands.iter().map(|command| printed(command));
+    let mut texts: Vec<String> = texts.collect();
+    texts.push(std::fs::read_to_string(picture).expect("a picture"));
+    texts
+}
+
 /// The project's directory.
 pub fn root() -> PathBuf {
     Path::new(env!("CARGO_MANIFEST_DIR")).join("../..")
