@@ -1,4 +1,5 @@
-//! Builds the proved static library with the Rattle toolchain and links it. `CLEARANCE_LIB` names a directory that holds `libclearance.a` already.
+//! Builds the proved static library with the Rattle toolchain and links it. `CLEARANCE_LIB` names a directory that holds `libclearance.a` already, by its
+//! absolute path, since the linker is not started where this script is.
 
 use std::path::{Path, PathBuf};
 use std::process::Command;
@@ -15,6 +16,7 @@ fn main() {
 
 /// The directory that the caller names, after a look at what is there.
 fn given(directory: PathBuf) -> PathBuf {
+    assert!(directory.is_absolute(), "CLEARANCE_LIB: {} is no absolute path", directory.display());
     let archive = directory.join("libclearance.a");
     assert!(archive.is_file(), "CLEARANCE_LIB: there is no {}", archive.display());
     println!("cargo:rerun-if-changed={}", archive.display());
