@@ -4,3 +4,4 @@ pub mod Working
 pub mod Stray
 pub mod Calls
 pub mod Laws
+pub mod AsAmended

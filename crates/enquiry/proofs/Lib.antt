@@ -2,3 +2,4 @@ pub mod Enquiring
 pub mod Staying
 pub mod StepByAnswers
 pub mod Amended
+pub mod AsAmended

@@ -1,3 +1,4 @@
+pub mod AsAmended
 pub mod Awash
 pub mod Survey
 pub mod Edges

@@ -1,6 +1,7 @@
 -- Document 02, request 1, "Which end is wet": "On a small face with two odd edges the step and its direction, for the leaf on a given side of it, follow
 -- from the four edge answers alone: two surveys that both have this small face and agree on these agree on the step."
--- Both halves of the sentence are stated below, for any axis and either side; they are proved in enquiry/proofs/StepByAnswers.antt.
+-- Both halves of the sentence are stated below, for any axis and either side; they are proved in enquiry/proofs/StepByAnswers.antt. Of the survey as amended
+-- they stand in AsAmended.antt.
 use Prim.Native.Nat.{ℕ, _^_}
 use mathlib.Core.Path.{_≡_}
 use mathlib.Core.Bool.{Bool, true, false, not, _&&_, cond}
@@ -10,7 +11,7 @@ use lib.ListN.{length}
 use lib.Ieee.{Float}
 use Rattle.base.specs.Lists.{any, collect, count, sum, bit}
 use Rattle.base.specs.Grid.{Axis, axisNumber}
-use Rattle.rules.specs.Survey.{cellsOf, Survey}
+use Rattle.rules.specs.Survey.{Cell, cellsOf, Survey}
 use Rattle.rules.specs.Edges.{CellEdge, odd}
 use Rattle.rules.specs.Steps.{upperSide, sideBy, Face, sameFace, sideLow, smallFaces, faceEdge, Step, faceSteps}
 use Rattle.rules.specs.Outputs.{accepted, surveyOf, Enquired, refused, even, crossing, enquiry}
@@ -37,17 +38,20 @@ pub record FourAnswers : Type 0 where
   pub third : Enquired
   pub fourth : Enquired
 
--- the enquiry's answer for an edge; where there are amendments, tk is the corner table as amended (Resounding.antt)
+-- the answers for the four edges of a face, by the answer for each edge
+abbrev pub fourAnswers : (CellEdge → Enquired) → Axis → Face → FourAnswers
+fourAnswers answer a f =
+    record { first = answer (edgeRound a f 0); second = answer (edgeRound a f 1); third = answer (edgeRound a f 2); fourth = answer (edgeRound a f 3) }
+
+-- the enquiry's answer for an edge
 unfoldable pub answerTo : List ℕ → List ℕ → Float → CellEdge → Enquired
 unfolding enquiry
 answerTo tc tk clearance e = enquiry tc tk clearance (axisNumber (e .axis)) (e .low) (2 ^ e .level)
 
--- the answers for the four edges of a face
+-- its answers for the four edges of a face
 unfoldable pub faceAnswers : List ℕ → List ℕ → Float → Axis → Face → FourAnswers
 unfolding answerTo
-faceAnswers tc tk clearance a f =
-    let answer : ℕ → Enquired = λ i. answerTo tc tk clearance (edgeRound a f i) in
-    record { first = answer 0; second = answer 1; third = answer 2; fourth = answer 3 }
+faceAnswers tc tk clearance a f = fourAnswers (answerTo tc tk clearance) a f
 
 -- ---- the step by four answers
 
@@ -87,13 +91,17 @@ stepBy upper r =
 
 -- ---- the sentence
 
--- a survey that is accepted at its clearance and has this small face on the upper or the lower side of one of its leaves
-unfoldable pub hasSmallFace : List ℕ → List ℕ → Float → Axis → Bool → Face → Bool
-unfolding accepted cellsOf smallFaces
-hasSmallFace tc tk clearance a upper f =
-    let cells = cellsOf tc in
+-- this small face is on the upper or the lower side of one of the leaves
+unfoldable pub isSmallFace : List Cell → Axis → Bool → Face → Bool
+unfolding smallFaces
+isSmallFace cells a upper f =
     let side = sideBy a upper in
-    accepted tc tk clearance && any (λ c. not (c .split) && any (sameFace f) (smallFaces cells side (sideLow side c) (c .level))) cells
+    any (λ c. not (c .split) && any (sameFace f) (smallFaces cells side (sideLow side c) (c .level))) cells
+
+-- a survey that is accepted at its clearance and has it
+unfoldable pub hasSmallFace : List ℕ → List ℕ → Float → Axis → Bool → Face → Bool
+unfolding accepted cellsOf isSmallFace
+hasSmallFace tc tk clearance a upper f = accepted tc tk clearance && isSmallFace (cellsOf tc) a upper f
 
 -- "On a small face with two odd edges the step and its direction [...] follow from the four edge answers alone": there is one step, and it is `stepBy`'s.
 unfoldable pub Follows : Type 0
