@@ -3,3 +3,4 @@ pub mod Staying
 pub mod StepByAnswers
 pub mod Amended
 pub mod AsAmended
+pub mod TwoSurveys
