@@ -4,3 +4,4 @@ pub mod Slices
 pub mod Reckoned
 pub mod Laws
 pub mod Amended
+pub mod AsAmended
