@@ -1,4 +1,3 @@
-pub mod AsAmended
 pub mod Awash
 pub mod Survey
 pub mod Edges
@@ -12,3 +11,4 @@ pub mod AwashPlaces
 pub mod Water
 pub mod Resounding
 pub mod Calendar
+pub mod AsAmended
