@@ -27,7 +27,7 @@ use Rattle.calendar.proofs.Calls.{surveyNumber, survey-numbered, after,
 
 -- ---- a lawful calendar
 
--- its records allFollow each other
+-- each of its records begins no earlier than the one ahead of it ends
 following : (t : List ℕ) → T (not (badCalendar t)) → T (allFollow 0 (periodsOf t))
 unfolding badCalendar
 following t lawful = rw (all-follow-is (periodsOf t)) (go (eqb (length t % periodSize) 0) (all rightPeriod (periodsOf t) && inTurn (periodsOf t)) lawful)

@@ -1,21 +1,15 @@
 -- The enquiry's answer as plain numbers, for C: document 01's number returned and, for a crossing, its values and the wet end. What is not there is 0.
-use Prim.Native.Nat.{ℕ}
 use mathlib.Core.Bool.{cond}
 use lib.Dec.{eqb}
 use lib.Ieee.{Float, binary32, ofBits}
+use Rattle.rules.specs.WhichEnd.{endNumber}
 use Rattle.rules.specs.Outputs.{Enquired, refused, even, crossing}
-use Rattle.rules.specs.declared.End.{End}
 use Rattle.rules.specs.declared.End.the-variants.{Lower, Upper}
 use Rattle.clearance.specs.declared.Reply.{Reply}
 
 -- +0
 abbrev pub nought : Float
 nought = ofBits binary32 0
-
--- the wet end: 1 for the lower, 2 for the upper
-abbrev pub endNumber : End → ℕ
-endNumber Lower = 1
-endNumber Upper = 2
 
 abbrev pub replyOf : Enquired → Reply
 replyOf (refused n) = record { number = n; crossing = 0; point = 0; x = nought; y = nought; z = nought; «wet_end» = 0 }

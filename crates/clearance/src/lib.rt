@@ -12,6 +12,7 @@ ghost use mathlib.Core.Bool.{not};
 ghost use Prim.Native.Nat.{ℕ};
 ghost use lib.Dec.{T};
 ghost use Rattle.base.specs.Grid.{Place};
+ghost use Rattle.rules.specs.WhichEnd.{endNumber};
 ghost use Rattle.rules.specs.Outputs.{surveyOf, asked, answered, StaysOn};
 ghost use Rattle.rules.specs.Closing.{ClosedIn};
 ghost use Rattle.rules.specs.Water.{beyondBox};
@@ -22,7 +23,7 @@ ghost use Rattle.water.specs.Corners.{referencePlace};
 ghost use Rattle.drawing.specs.Draws.{Draws};
 ghost use Rattle.volume.specs.Reckons.{drawnPart, sixfoldFrom, Reckons};
 ghost use Rattle.clearance.specs.Version.{version};
-ghost use Rattle.clearance.specs.Reply.{endNumber, replyOf, told};
+ghost use Rattle.clearance.specs.Reply.{replyOf, told};
 ghost use Rattle.rules.specs.declared.Answer.the-variants.{Found};
 
 // The answer of an enquiry as plain numbers: the number returned, whether the edge is crossing, the point's number and its place, and the wet end: 1 the

@@ -13,18 +13,18 @@ use Rattle.faces.specs.Patterns.{stepFrom, firstEntry}
 use Rattle.faces.proofs.Table.{alike-rows}
 
 -- the wet marks from corner i on
-abbrev marks : ℕ → ℕ → ℕ
+abbrev pub marks : ℕ → ℕ → ℕ
 marks p i = 17 * p / 2 ^ i
 
 -- how many corners are wet in a row, from the one after corner i on: up to the lowest digit that is 0
-abbrev wetToRight : ℕ → ℕ → ℕ
+abbrev pub wetToRight : ℕ → ℕ → ℕ
 wetToRight p i = trailingZeros 64 (2 ^ 64 - 1 - marks p i / 2)
 
 -- the edge to which the step that enters by edge i goes; 4 where none enters
-abbrev formula : ℕ → ℕ → ℕ
+abbrev pub formula : ℕ → ℕ → ℕ
 formula p i = cond (eqb (marks p i % 4) 2) ((i + wetToRight p i) % 4) 4
 
-by-formula : (p i : ℕ) → p < 16 → i < 4 → formula p i ≡ stepFrom p i
+pub by-formula : (p i : ℕ) → p < 16 → i < 4 → formula p i ≡ stepFrom p i
 unfolding trailingZeros stepFrom
 by-formula = alike-rows formula stepFrom refl
 

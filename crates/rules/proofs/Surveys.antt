@@ -12,12 +12,11 @@ use Rattle.base.specs.Grid.{Place, origin, Axis, X, axes, same}
 use Rattle.rules.specs.Survey.{cellsOf, cornersOf}
 use Rattle.rules.specs.Edges.{edge, onSide, isEdge, odd, fraction, spotOn}
 use Rattle.rules.specs.Steps.{sideBy, Face, Step, steps, saddleCut, faceSteps}
+use Rattle.rules.specs.WhichEnd.{endNumber}
 use Rattle.rules.specs.Outputs.{surveyRefusal, accepted, surveyOf, Drawing, draw, Enquired, refused, even, crossing, enquiry, coordinates}
 use Rattle.rules.specs.Closing.{isOdd}
 use Rattle.rules.specs.StepByAnswers.{oddEdges, faceAnswers, stepBy, hasSmallFace}
 use Rattle.rules.specs.AwashPlaces.{dryCorner, wetCorner, cornerSpot}
-use Rattle.rules.specs.declared.End.{End}
-use Rattle.rules.specs.declared.End.the-variants.{Lower, Upper}
 
 -- ---- tables
 
@@ -155,11 +154,6 @@ bits v = toBits binary32 v
 abbrev pub drawingNumbers : Drawing → List ℕ
 unfolding toBits
 drawingNumbers d = d .result .number ∷ d .result .points ∷ d .result .triangles ∷ map bits (d .points) ++ d .triangles
-
--- an end by the number that C has for it
-abbrev pub endNumber : End → ℕ
-endNumber Lower = 1
-endNumber Upper = 2
 
 -- an enquiry's answer: the number returned, and for a crossing the point's number, the bits of its place and the wet end
 abbrev pub answerNumbers : Enquired → List ℕ

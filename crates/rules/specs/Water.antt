@@ -17,7 +17,7 @@ use Rattle.rules.specs.Outputs.{numbers, firstOf, accepted, drawingCheck
 use Rattle.rules.specs.declared.Water.{Water}
 
 -- "Each coordinate of each point is taken down to a whole sixteenth": a coordinate, which is never below 0 (`AllTakenDown`), is num / den, and this is how many
--- whole sixteenths are in it
+-- whole sixteenths are in it. (`num` drops the sign: below 0 it would be that of the opposite number.)
 unfoldable pub sixteenths : Float → ℕ
 sixteenths v = 16 * num v / den v
 
