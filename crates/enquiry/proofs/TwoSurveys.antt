@@ -97,6 +97,10 @@ leaf-agrees = record { has = tt; has-too = tt; two-odd = refl; gives = refl; giv
 abbrev pub resoundings : List ℕ
 resoundings = collect (λ p. resounded p (edgeWet two minusTwo p) 1) (leaf .corners)
 
+pub resounded-differ : T (not (equal (amended (ones .corners) resoundings) (ones .corners)))
+unfolding amended
+resounded-differ = tt
+
 pub resounded-agrees : faceSteps (surveyAmended (ones .cells) (ones .corners) [] zero) (sideBy X true) leafFace
     ≡ faceSteps (surveyAmended (ones .cells) (ones .corners) resoundings zero) (sideBy X true) leafFace
 unfolding AgreeAmended hasSmallFaceAmended oddEdges faceAnswersAmended ofBits surveyOf amended
