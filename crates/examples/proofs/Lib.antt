@@ -1,3 +1,4 @@
 pub mod Starred
 pub mod Drawings
+pub mod Divided
 pub mod Volumes

@@ -4,7 +4,7 @@ use Prim.Native.Nat.{ℕ}
 use mathlib.Core.List.{List, [], _∷_, _++_}
 use Rattle.rules.proofs.Surveys.{place, at, minusOne, greatest, wetAtOnly, split, drawing, Example, example, oldFloat, oldNumber, untouched}
 use Rattle.rules.proofs.Surveys.{Right, right, Each, each}
-use Rattle.rules.proofs.Starred.{f128, f256, f384, f512, centre, six, eight, twins, twinSoundings}
+use Rattle.rules.proofs.Starred.{f128, f256, f384, f512, centre, eight, twins, twinSoundings}
 use Rattle.rules.proofs.Starred.{oneLeaf, centreWet, allDry, allWet, saddles, quarterWay, zeros, thirdSplit, badSoundings, axisThree}
 
 -- 512 / 1,048,577 rounded, and 1,024 less that, rounded

@@ -7,10 +7,10 @@ use lib.ListN.{replicate}
 use Rattle.base.specs.Lists.{collect, count}
 use Rattle.base.specs.Grid.{Place}
 use Rattle.rules.specs.Survey.{cellsOf}
-use Rattle.rules.proofs.Surveys.{cellTable, cornerTable, place, Soundings, at, one, minusOne, two, three, greatest, least, notANumber, wetAtOnly}
+use Rattle.rules.proofs.Surveys.{cellTable, cornerTable, place, Soundings, at, one, minusOne, three, greatest, least, notANumber, wetAtOnly}
 use Rattle.rules.proofs.Surveys.{Shape, shape, leaves, leaf, split}
 use Rattle.rules.proofs.Surveys.{checking, drawing, asking, Example, example, exampleAt, untouched, Right, right, Each, each}
-use Rattle.rules.proofs.Starred.{f64, f256, f512, centre, twins}
+use Rattle.rules.proofs.Starred.{centre, twins}
 
 -- ---- surveys
 

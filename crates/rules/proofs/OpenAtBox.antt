@@ -3,7 +3,7 @@
 use Prim.Native.Nat.{ℕ}
 use mathlib.Core.List.{List, [], _∷_}
 use Rattle.base.specs.Grid.{Place}
-use Rattle.rules.proofs.Surveys.{place, at, one, minusOne, three, notANumber, wetAtOnly}
+use Rattle.rules.proofs.Surveys.{place, at, one, minusOne, notANumber, wetAtOnly}
 use Rattle.rules.proofs.Surveys.{leaf, split, checking, drawing, asking, Example, example, exampleAt, untouched, Right, right, Each, each}
 use Rattle.rules.proofs.Starred.{f512}
 use Rattle.rules.proofs.Further.{minusBeyond, oneWet, refused, refusedAt}
