@@ -1,5 +1,5 @@
 #!/usr/bin/env python3
-"""Lists the functions of compiled files in which a new stack page is touched behind a conditional jump.
+"""Lists the functions of compiled files in which a new stack page is touched behind a conditional jump, or a jump through a table.
 
 The compiler's back end touches each page of a large frame by `sub $0x1000,%rsp`, from eight pages on in a loop that ends at the address in r11. Where that
 stands behind a branch, r11 may hold a value that is still wanted, and the function is compiled wrong. In the first instructions of a function it is harmless.
@@ -35,8 +35,9 @@ def touches_page(operation, operands):
     return operation in ("sub", "subq") and operands == PAGE
 
 
-def is_branch(operation):
-    return operation.startswith("j") and not operation.startswith("jmp")
+def is_branch(operation, operands):
+    """A conditional jump, or one through a table."""
+    return operation.startswith("j") and (not operation.startswith("jmp") or operands.startswith("*"))
 
 
 def goes_back_to(pages, operands):
@@ -52,7 +53,7 @@ def pages_touched(body):
         if touches_page(operation, operands):
             pages.add(address)
             behind = behind or branched
-        elif is_branch(operation) and not goes_back_to(pages, operands):
+        elif is_branch(operation, operands) and not goes_back_to(pages, operands):
             branched = True
     return len(pages), behind
 
@@ -64,7 +65,7 @@ def look(path):
         pages, behind = pages_touched(body)
         touched = touched or pages > 0
         if behind:
-            print(f"{path}: {name}: a stack page is touched behind a conditional jump")
+            print(f"{path}: {name}: a stack page is touched behind a conditional jump or a jump through a table")
             fault = True
     return touched, fault
 

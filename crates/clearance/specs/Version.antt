@@ -1,6 +1,6 @@
 -- The number of this version of the calls.
 use Prim.Native.Nat.{ℕ}
 
--- it goes up with every change of a call, its arguments or what it returns
+-- it goes up by 1 with every change of what a call takes, returns or refuses, and with every call that is added
 abbrev pub version : ℕ
 version = 1

@@ -16,7 +16,7 @@ use Rattle.rules.specs.Survey.{cellsOf}
 use Rattle.rules.specs.Edges.{CellEdge}
 use Rattle.rules.specs.Steps.{Face}
 use Rattle.rules.specs.Outputs.{accepted, refused, enquiry}
-use Rattle.rules.specs.StepByAnswers.{edgeRound, isSmallFace, answerTo, faceAnswers, stepBy, hasSmallFace, Follows, Agree}
+use Rattle.rules.specs.StepByAnswers.{edgeRound, someLeafHas, answerTo, faceAnswers, stepBy, hasSmallFace, Follows, Agree}
 use Rattle.rules.specs.AwashPlaces.{PlacesByEnds}
 use Rattle.rules.specs.Resounding.{amended, enquiryAmended}
 use Rattle.rules.specs.AsAmended.{acceptedAmended, answerAmended, faceAnswersAmended, hasSmallFaceAmended}
@@ -27,14 +27,14 @@ use Rattle.places.proofs.OnEdge.{places-by-ends}
 use Rattle.enquiry.proofs.StepByAnswers.{by-answers, agree}
 
 module _ (a : Axis) (upper : Bool) (f : Face) (tc tk ta : List ℕ) (clearance : Float) (has : T (hasSmallFaceAmended tc tk ta clearance a upper f)) where
-  parts : T (acceptedAmended tc tk ta clearance) × T (isSmallFace (cellsOf tc) a upper f)
+  parts : T (acceptedAmended tc tk ta clearance) × T (someLeafHas (cellsOf tc) a upper f)
   unfolding hasSmallFaceAmended
-  parts = and→ (acceptedAmended tc tk ta clearance) (isSmallFace (cellsOf tc) a upper f) has
+  parts = and→ (acceptedAmended tc tk ta clearance) (someLeafHas (cellsOf tc) a upper f) has
 
   -- the survey with the corner table as amended has the small face
   has-face : T (hasSmallFace tc (amended tk ta) clearance a upper f)
   unfolding hasSmallFace
-  has-face = →and (accepted tc (amended tk ta) clearance) (isSmallFace (cellsOf tc) a upper f) (accepted→ tc tk ta clearance (parts .0) .1) (parts .1)
+  has-face = →and (accepted tc (amended tk ta) clearance) (someLeafHas (cellsOf tc) a upper f) (accepted→ tc tk ta clearance (parts .0) .1) (parts .1)
 
   -- and the answers of its enquiry are those of the call
   same-answer : (e : CellEdge) → answerAmended tc tk ta clearance e ≡ answerTo tc (amended tk ta) clearance e

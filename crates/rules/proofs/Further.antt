@@ -113,10 +113,9 @@ refusals =
     example leaf oneWet (asking 0 (place 0 0 0) 1000) (11 ∷ []) ∷
     example leaf oneWet (asking 0 (place 0 0 0) 512) (11 ∷ []) ∷ []
 
--- Of two refusals that both apply, the one checked first is given: here the lower number; 9 and 10 are in
--- examples/proofs/Drawings.antt, and 12, which is checked between 8 and 9, is in OpenAtBox.antt. No
--- survey that passes 7 can have 8 and 9, or 8 and 10, apply: at a clearance that is refused by 8 all its corners are dry, or all are wet, so it has no point,
--- and no slice is too short.
+-- Of two refusals that both apply, the one checked first is given: here the lower number; 9 and 10 are in examples/proofs/Drawings.antt, and 12, which is
+-- checked between 8 and 9, is in OpenAtBox.antt. No survey that passes 7 can have 8 and 9, or 8 and 10, apply: at a clearance that is refused by 8 all its
+-- corners are dry, or all are wet, so it has no point, and no slice is too short.
 unfoldable pub lowest : List Example
 lowest =
     -- 1 and 2, 2 and 3, 3 and 4, 4 and 5, 5 and 6, 6 and 7, 7 and 8

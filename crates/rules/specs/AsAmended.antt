@@ -16,12 +16,12 @@ use Rattle.rules.specs.Steps.{sideBy, Face, faceSteps, allTriangles}
 use Rattle.rules.specs.OpenAtBox.{openAtBox}
 use Rattle.rules.specs.Outputs.{inRange, surveyOf, numbers, pointFloats, Enquired}
 use Rattle.rules.specs.Closing.{isOdd}
-use Rattle.rules.specs.StepByAnswers.{oddEdges, FourAnswers, fourAnswers, stepBy, isSmallFace}
+use Rattle.rules.specs.StepByAnswers.{oddEdges, FourAnswers, fourAnswers, stepBy, someLeafHas}
 use Rattle.rules.specs.AwashPlaces.{dryCorner, wetCorner, PlaceByEnds}
 use Rattle.rules.specs.Water.{sixfold, beyondBox, TakenDown, Small}
 use Rattle.rules.specs.Resounding.{amended, checkAmended, enquiryAmended, volumeAmended}
 
--- accepted: the check of the three tables by itself gives 0, and the clearance is in range
+-- accepted: the check of the three tables by itself gives 0, and the clearance is in range. By `ChecksInOrder` these are the checks of every call up to 8.
 unfoldable pub acceptedAmended : List ℕ → List ℕ → List ℕ → Float → Bool
 unfolding checkAmended inRange
 acceptedAmended tc tk ta clearance = eqb (checkAmended tc tk ta) 0 && inRange clearance
@@ -49,8 +49,8 @@ faceAnswersAmended tc tk ta clearance a f = fourAnswers (answerAmended tc tk ta 
 
 -- a survey that is accepted at its clearance and has this small face on the upper or the lower side of one of its leaves
 unfoldable pub hasSmallFaceAmended : List ℕ → List ℕ → List ℕ → Float → Axis → Bool → Face → Bool
-unfolding acceptedAmended cellsOf isSmallFace
-hasSmallFaceAmended tc tk ta clearance a upper f = acceptedAmended tc tk ta clearance && isSmallFace (cellsOf tc) a upper f
+unfolding acceptedAmended cellsOf someLeafHas
+hasSmallFaceAmended tc tk ta clearance a upper f = acceptedAmended tc tk ta clearance && someLeafHas (cellsOf tc) a upper f
 
 -- "On a small face with two odd edges the step and its direction [...] follow from the four edge answers alone": there is one step, and it is `stepBy`'s.
 unfoldable pub FollowsAmended : Type 0

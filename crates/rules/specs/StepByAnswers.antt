@@ -91,17 +91,17 @@ stepBy upper r =
 
 -- ---- the sentence
 
--- this small face is on the upper or the lower side of one of the leaves
-unfoldable pub isSmallFace : List Cell → Axis → Bool → Face → Bool
+-- some leaf has this small face on its upper, or on its lower, side
+unfoldable pub someLeafHas : List Cell → Axis → Bool → Face → Bool
 unfolding smallFaces
-isSmallFace cells a upper f =
+someLeafHas cells a upper f =
     let side = sideBy a upper in
     any (λ c. not (c .split) && any (sameFace f) (smallFaces cells side (sideLow side c) (c .level))) cells
 
 -- a survey that is accepted at its clearance and has it
 unfoldable pub hasSmallFace : List ℕ → List ℕ → Float → Axis → Bool → Face → Bool
-unfolding accepted cellsOf isSmallFace
-hasSmallFace tc tk clearance a upper f = accepted tc tk clearance && isSmallFace (cellsOf tc) a upper f
+unfolding accepted cellsOf someLeafHas
+hasSmallFace tc tk clearance a upper f = accepted tc tk clearance && someLeafHas (cellsOf tc) a upper f
 
 -- "On a small face with two odd edges the step and its direction [...] follow from the four edge answers alone": there is one step, and it is `stepBy`'s.
 unfoldable pub Follows : Type 0

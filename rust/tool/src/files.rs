@@ -57,7 +57,8 @@ pub fn read(directory: &Path, reading: Reading) -> Result<Survey, Failure> {
 /// The clearance in the bytes of its file. One of another length is refusal 8, in its order, as a clearance that is not a number is.
 ///
 /// A file in which a number is written as text is a failure. The four bytes of `24.0` or `0.5\n` are a binary32 too, next to 0 (below 1/4,096), and a drawing
-/// at that clearance would be wrong without a word. Text of another length is refused by 8 as the documents' drawing program does.
+/// at that clearance would be wrong without a word. Text of another length is a failure too, but for `draw`, which refuses it by 8 as the documents' drawing
+/// program does.
 fn stored_clearance(path: &Path, bytes: &[u8], as_program: bool) -> Result<f32, Failure> {
     let stored = bytes.try_into().map(f32::from_le_bytes);
     match spelled(bytes) {
