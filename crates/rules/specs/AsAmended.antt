@@ -21,7 +21,8 @@ use Rattle.rules.specs.AwashPlaces.{dryCorner, wetCorner, PlaceByEnds}
 use Rattle.rules.specs.Water.{sixfold, beyondBox, TakenDown, Small}
 use Rattle.rules.specs.Resounding.{amended, checkAmended, enquiryAmended, volumeAmended}
 
--- accepted: the check of the three tables by itself gives 0, and the clearance is in range. By `ChecksInOrder` these are the checks of every call up to 8.
+-- accepted: the check of the three tables by itself gives 0, and the clearance is in range. By `ChecksInOrder` these are the checks of the enquiry, of drawing
+-- and of the volume up to 8.
 unfoldable pub acceptedAmended : List ℕ → List ℕ → List ℕ → Float → Bool
 unfolding checkAmended inRange
 acceptedAmended tc tk ta clearance = eqb (checkAmended tc tk ta) 0 && inRange clearance
