@@ -6,3 +6,4 @@ pub mod Octants
 pub mod Counts
 pub mod Below
 pub mod Alike
+pub mod Slices

@@ -5,6 +5,7 @@ use rules::AskedEdge;
 use rules::Drawn;
 use rules::Edge;
 use rules::End;
+use rules::Passage;
 use rules::Water;
 use water::Reference;
 ghost use mathlib.Core.Path.{_≡_};
@@ -18,6 +19,8 @@ ghost use Rattle.rules.specs.Closing.{ClosedIn};
 ghost use Rattle.rules.specs.Water.{beyondBox};
 ghost use Rattle.rules.specs.Resounding.{amended, checkAmended, enquiryAmended, drawAmended, volumeAmended};
 ghost use Rattle.rules.specs.Calendar.{periodAt, clearanceAt, drawByCalendar, InForce};
+ghost use Rattle.rules.specs.Ways.{boatGraph, passageAmended, Means};
+ghost use Rattle.ways.specs.Shows.{Shows, shownBy};
 ghost use Rattle.enquiry.specs.Enquiry.{lowerEnd};
 ghost use Rattle.water.specs.Corners.{referencePlace};
 ghost use Rattle.drawing.specs.Draws.{Draws};
@@ -91,7 +94,7 @@ fn reply_of(a: Answer) -> Reply
 }
 
 // CLEARANCE_VERSION of the header that fits.
-const VERSION: u32 = 1;
+const VERSION: u32 = 2;
 
 // The number of this version of the calls: a program sees by it that the header it was compiled with and the archive fit.
 #[no_mangle]
@@ -203,4 +206,24 @@ pub extern "C" fn clearance_volume(
         points,
         triangles,
     )
+}
+
+// Shows a way between two corners of a survey, each by its record number, over corners that are wet at a clearance.
+#[no_mangle]
+pub extern "C" fn clearance_way(
+    cells: &[u8],
+    corners: &[u8],
+    amendments: &[u8],
+    clearance: f32,
+    start: u32,
+    end: u32,
+    way: &mut [u16],
+    work: &mut [u16],
+) -> Passage
+    ensures exact { λ r. ⌜ Shows (passageAmended (now (cells .entry)) (now (corners .entry)) (now (amendments .entry)) clearance start end
+        (now (way .entry)) (now (work .entry))) r (now (way .exit)) (now (work .exit)) ⌝ }
+    ensures means { λ r. ⌜ Means (boatGraph (now (cells .entry)) (amended (now (corners .entry)) (now (amendments .entry))) clearance) start end
+        (now (way .entry)) (now (work .entry)) (shownBy r (now (way .exit)) (now (work .exit))) ⌝ }
+{
+    ways::find(cells, corners, amendments, clearance, start, end, way, work)
 }

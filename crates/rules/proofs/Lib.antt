@@ -7,3 +7,4 @@ pub mod OpenAtBox
 pub mod Volumes
 pub mod Resounding
 pub mod Calendar
+pub mod Ways

@@ -11,4 +11,5 @@ pub mod AwashPlaces
 pub mod Water
 pub mod Resounding
 pub mod Calendar
+pub mod Ways
 pub mod AsAmended

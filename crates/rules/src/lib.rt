@@ -66,3 +66,10 @@ pub struct Period {
     pub until: u32,
     pub clearance: f32,
 }
+
+// What a call that shows a way returns: a number (0 if shown) and the count of the way's corners. Document 02, request 8.
+#[repr(C)]
+pub struct Passage {
+    pub number: u32,
+    pub corners: u32,
+}

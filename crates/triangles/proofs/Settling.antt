@@ -31,14 +31,6 @@ marked : (b : Bool) → not b ≡ false → b ≡ true
 marked true e = refl
 marked false e = sym e
 
--- one element more is copied
-pub copy-more : (from to : List ℕ) (i : ℕ) → i < length from → i < length to
-    → set (take i from ++ drop i to) i (getD from i 0) ≡ take (suc i) from ++ drop (suc i) to
-copy-more [] to i h k = absurd (omega arith)
-copy-more (x ∷ from) [] i h k = absurd (omega arith)
-copy-more (x ∷ from) (y ∷ to) zero h k = refl
-copy-more (x ∷ from) (y ∷ to) (suc i) h k = ap (λ (l : List ℕ). x ∷ l) (copy-more from to i (omega arith) (omega arith))
-
 module _ (limit : ℕ) (ts : List Triangle) (before after : List ℕ) (r : ℕ) (trace : List ℕ) (d : Drew limit ts before after r trace) where
   size : length (collect numbers ts) ≡ 3 * r
   size = length-numbers ts ∙ ap (λ (k : ℕ). 3 * k) (sym (d .counted))

@@ -4,7 +4,7 @@ use mathlib.Core.Path.{_≡_, refl, ap, _∙_}
 use mathlib.Core.List.{_++_}
 use lib.ListN.{length, getD, set, take, drop, length-set}
 use native.Mathlib.Numerals.{add-one}
-use Rattle.triangles.proofs.Settling.{copy-more}
+use Rattle.base.proofs.Slices.{copy-more}
 use borrow.Author.Needs.{needs}
 use native.Mathlib.Omega.{arith}
 use Rattle.triangles.proofs.copy.Statement.{statement}

@@ -1,0 +1,11 @@
+pub mod Walks
+pub mod Rounds
+pub mod Steps
+pub mod Ways
+pub mod Searching
+pub mod Visiting
+pub mod Exploring
+pub mod Choosing
+pub mod Following
+pub mod Transfer
+pub mod Few

@@ -1,0 +1,180 @@
+-- `graph::explore` meets its contract: before each turn the search stands as `Exploring` says.
+use Prim.Native.Nat.{ℕ, _+_, _-_, _≤_, _<_}
+use mathlib.Core.Path.{refl, sym, ap, _∙_, subst}
+use mathlib.Core.List.{List, _++_}
+use native.Mathlib.Omega.{arith}
+use lib.ListN.{length, getD, set, drop, length-replicate}
+use Rattle.rules.specs.Ways.{steps}
+use Rattle.graph.specs.Table.{graphIn, Frontier}
+use Rattle.graph.proofs.Exploring.{Exploring, tail-few, number-small, head-inside, next-head, all-done, cleared-size, first-numbers, rest-kept, past-ones}
+use borrow.Author.Needs.{needs}
+use Rattle.graph.proofs.explore.Statement.{statement}
+use Rattle.graph.proofs.explore.Tie as tie
+
+abbrev frontier : ℕ → List ℕ → List ℕ → Frontier
+frontier tail found queue = record { tail = tail; found = found; queue = queue }
+
+abbrev Inv-loop : tie.InvT-loop
+Inv-loop links count start found₀ queue₀ head₀ tail₀ found queue head tail =
+    Exploring links count start (drop count found₀) (frontier tail found queue) head 0
+
+abbrev μ-loop : tie.MeasureT-loop
+μ-loop links count start found₀ queue₀ head₀ tail₀ found queue head tail = 4872 - head
+
+-- from the loop to the start, and to what is cleared
+abbrev begin : tie.At-loop Inv-loop μ-loop → tie.Start Inv-loop μ-loop
+begin l = l .before .before .before .before .before .before .before .before
+
+module _ (l : tie.At-loop Inv-loop μ-loop) where
+  abbrev t : List ℕ
+  t = begin l .args .links .now
+
+  abbrev n : ℕ
+  n = begin l .args .count
+
+  abbrev cleared : List ℕ
+  cleared = l .before .before .before .clear .last .0
+
+  abbrev here : Frontier
+  here = frontier (l .loop .tail) (l .loop .found) (l .loop .queue)
+
+  few : begin l .args .count ≤ 4872
+  few = begin l .pre .0 .2
+
+  some : (k : ℕ) → begin l .args .count + k < 4873 → 1 ≤ getD (drop (begin l .args .count) (set (l .before .before .before .clear .last .0) (begin l .args .start) 1)) k 0
+  some =
+      past-ones t n (begin l .args .start) (begin l .args .found .now) cleared few (begin l .pre .0 .3) (begin l .pre .1 .0) (l .before .before .before .clear .ensures)
+
+  tail-small : l .loop .tail ≤ 4872
+  tail-small = let a = tail-few t n (begin l .args .start) _ few (begin l .pre .0 .1) some here _ _ (l .loop .inv) in let b = few in omega arith
+
+  module _ (h : l .loop .head < l .loop .tail) where
+    corner-small : getD (l .loop .queue) (l .loop .head) 0 < begin l .args .count
+    corner-small = head-inside t n (begin l .args .start) _ few (begin l .pre .0 .1) some here _ _ (l .loop .inv) h
+
+    step-small : getD (l .loop .found) (getD (l .loop .queue) (l .loop .head) 0) 0 ≤ 4872
+    step-small = number-small t n (begin l .args .start) _ few (begin l .pre .0 .1) some here _ _ (l .loop .inv) h
+
+clear-requires : tie.Need-clear-requires Inv-loop μ-loop
+clear-requires c κs =
+    let b = c .before .before .before .before in
+    let e = ap length (b .pre .1 .0) in
+    let f = length-replicate {A = ℕ} 4873 1 in
+    omega (arith, e, f, b .pre .0 .2)
+
+mul-found : tie.Need-mul-found Inv-loop μ-loop
+mul-found c = search needs
+
+slice-write-found : tie.Need-slice-write-found Inv-loop μ-loop
+slice-write-found c =
+    let k = c .before .before in
+    let b = k .before .before .before .before .before in
+    let a = b .args in
+    omega (arith, b .pre .0 .2, b .pre .0 .3, cleared-size (a .links .now) (a .count) (a .start) (a .found .now) (k .clear .last .0) (b .pre .0 .2) (b .pre .0 .3) (b .pre .1 .0) (k .clear .ensures))
+
+cast-queue : tie.Need-cast-queue Inv-loop μ-loop
+cast-queue c = search needs
+
+slice-write-queue : tie.Need-slice-write-queue Inv-loop μ-loop
+slice-write-queue c = search needs
+
+loop-holds : tie.Need-loop-holds Inv-loop μ-loop
+loop-holds c =
+    let b = c .before .before .before .before .before .before .before in
+    let a = b .args in
+    first-numbers (a .links .now) (a .count) (a .start) (a .found .now) (c .before .before .clear .last .0) (b .pre .0 .2) (b .pre .0 .3) (b .pre .1 .0)
+    (c .before .before .clear .ensures) (a .queue .now) (b .pre .1 .1)
+
+mul-wide : tie.Need-mul-wide Inv-loop μ-loop
+mul-wide c = omega (arith, tail-small (c .before))
+
+slice-read-wide : tie.Need-slice-read-wide Inv-loop μ-loop
+slice-read-wide c = omega (arith, tail-small (c .before .before), c .before .before .loop .inv .queue-size)
+
+wide-requires : tie.Need-wide-requires Inv-loop μ-loop
+wide-requires c κs = search needs
+
+mul-number : tie.Need-mul-number Inv-loop μ-loop
+mul-number c = omega (arith, few (c .before .before .before), corner-small (c .before .before .before) (c .before .before .loop-test .taken), c .wide .ensures)
+
+slice-read-number : tie.Need-slice-read-number Inv-loop μ-loop
+slice-read-number c =
+    let w = c .before in
+    let l = w .before .before .before in
+    omega (arith, few l, corner-small l (w .before .before .loop-test .taken), w .wide .ensures, l .loop .inv .size)
+
+add-number : tie.Need-add-number Inv-loop μ-loop
+add-number c =
+    let w = c .before in
+    let l = w .before .before .before in
+    let e = ap (λ (k : ℕ). getD (l .loop .found) k 0) (w .wide .ensures) in
+    omega (arith, step-small l (w .before .before .loop-test .taken), e)
+
+visit-requires : tie.Need-visit-requires Inv-loop μ-loop
+visit-requires c κs =
+    let w = c .before .before .before in
+    let l = w .before .before .before in
+    let b = begin l in (
+      (b .pre .0 .0, b .pre .0 .1, omega (arith, few l, corner-small l (w .before .before .loop-test .taken), w .wide .ensures)),
+      (l .loop .inv .size, omega (arith, tail-small l, l .loop .inv .queue-size)),
+    )
+
+add-head : tie.Need-add-head Inv-loop μ-loop
+add-head c = let l = c .before .before .before .before .before .before .before .before .before .before .before in omega (arith, tail-small l, c .before .before .before .before .before .before .before .before .before .before .loop-test .taken)
+
+loop-less : tie.Need-loop-less Inv-loop μ-loop
+loop-less c = let l = c .before .before .before .before .before .before .before .before .before .before .before in omega (arith, tail-small l, c .before .before .before .before .before .before .before .before .before .before .loop-test .taken)
+
+loop-again : tie.Need-loop-again Inv-loop μ-loop
+loop-again c =
+    let v = c .before .before .before .before in
+    let w = v .before .before .before .before in
+    let l = w .before .before .before in
+    let b = begin l in
+    subst (λ (s : Frontier). Exploring (t l) (n l) (b .args .start) (drop (n l) (set (cleared l) (b .args .start) 1)) s (l .loop .head + 1) 0)
+    (sym (v .visit .ensures))
+    (next-head (t l) (n l) (b .args .start) _ (few l) (b .pre .0 .1) (some l) (here l) (l .loop .head) (l .loop .inv) (w .before .before .loop-test .taken)
+    (w .wide .result) _ (sym (w .wide .ensures)) refl)
+
+same-length : tie.Need-same-length Inv-loop μ-loop
+same-length c =
+    let b = begin (c .before) in
+    c .before .loop .inv .size ∙ sym (ap length (b .pre .1 .0) ∙ length-replicate {A = ℕ} 4873 1)
+
+same-length-2 : tie.Need-same-length-2 Inv-loop μ-loop
+same-length-2 c = c .before .loop .inv .queue-size ∙ sym (begin (c .before) .pre .1 .1)
+
+returns : tie.Need-returns Inv-loop μ-loop
+returns c =
+    let l = c .before in
+    let b = begin l in
+    let a = b .args in
+    all-done (t l) (n l) (a .start) _ (few l) (b .pre .0 .1) (some l) (here l) _ _ (l .loop .inv) (b .pre .0 .3) (c .loop-test .left)
+    ∙ ap (λ (z : List ℕ). steps (graphIn (t l) (n l)) (a .start) ++ z)
+    (rest-kept (t l) (n l) (a .start) (a .found .now) (cleared l) (few l) (b .pre .0 .3) (b .pre .1 .0) (l .before .before .before .clear .ensures))
+
+pub explore-spec : {M : Type 1} → statement M
+explore-spec =
+    tie.close
+    (tie.spec
+    Inv-loop
+    μ-loop
+    clear-requires
+    mul-found
+    slice-write-found
+    cast-queue
+    slice-write-queue
+    loop-holds
+    mul-wide
+    slice-read-wide
+    wide-requires
+    mul-number
+    slice-read-number
+    add-number
+    visit-requires
+    add-head
+    loop-less
+    loop-again
+    same-length
+    same-length-2
+    returns)

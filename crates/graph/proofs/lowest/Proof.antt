@@ -1,0 +1,91 @@
+-- `graph::lowest` meets its contract.
+use Prim.Native.Nat.{ℕ, _-_, _≤_}
+use mathlib.Core.Path.{_≡_, subst}
+use native.Mathlib.Omega.{arith}
+use Rattle.graph.proofs.Choosing.{Lowest, lowest-none, lowest-next, lowest-found, none-found}
+use borrow.Author.Needs.{needs}
+use Rattle.graph.proofs.lowest.Statement.{statement}
+use Rattle.graph.proofs.lowest.Tie as tie
+
+abbrev Inv-loop : tie.InvT-loop
+Inv-loop links back count k number best₀ i₀ best i = Lowest links back count k number i best × (i ≤ 6)
+
+abbrev μ-loop : tie.MeasureT-loop
+μ-loop links back count k number best₀ i₀ best i = 6 - i
+
+loop-holds : tie.Need-loop-holds Inv-loop μ-loop
+loop-holds c = (lowest-none _ _ _ _ _, omega arith)
+
+mul-wide : tie.Need-mul-wide Inv-loop μ-loop
+mul-wide c = search needs
+
+add-wide : tie.Need-add-wide Inv-loop μ-loop
+add-wide c = search needs
+
+mul-wide-2 : tie.Need-mul-wide-2 Inv-loop μ-loop
+mul-wide-2 c = search needs
+
+shared-slice-read-wide : tie.Need-shared-slice-read-wide Inv-loop μ-loop
+shared-slice-read-wide c = search needs
+
+wide-requires : tie.Need-wide-requires Inv-loop μ-loop
+wide-requires c κs = search needs
+
+better-requires : tie.Need-better-requires Inv-loop μ-loop
+better-requires c κs = search needs
+
+add-i : tie.Need-add-i Inv-loop μ-loop
+add-i c = search needs
+
+loop-less : tie.Need-loop-less Inv-loop μ-loop
+loop-less c = search needs
+
+loop-again : tie.Need-loop-again Inv-loop μ-loop
+loop-again c =
+    let l = c .before .before .before .before in
+    let a = l .before .before .before .args in (
+      lowest-next (a .links .now) (a .back .now) (a .count) (a .k) (a .number) (l .loop .i) (l .loop .best) (c .before .wide .result) (c .better .result) (l .loop .inv .0)
+          (omega (arith, c .before .before .before .loop-test .taken)) (c .before .wide .ensures) (c .better .ensures),
+      omega (arith, c .before .before .before .loop-test .taken),
+    )
+
+returns : tie.Need-returns Inv-loop μ-loop
+returns c =
+    let l = c .before .before in
+    let b = l .before .before .before in
+    let a = b .args in
+    let six : l .loop .i ≡ 6 = omega (arith, l .loop .inv .1, c .before .loop-test .left) in
+    let low : Lowest (a .links .now) (a .back .now) (a .count) (a .k) (a .number) 6 (l .loop .best) = subst (λ (i : ℕ). Lowest (a .links .now) (a .back .now) (a .count) (a .k) (a .number) i (l .loop .best)) six (l .loop .inv .0) in (
+      none-found (a .links .now) (a .back .now) (a .count) (a .k) (a .number) (subst (Lowest (a .links .now) (a .back .now) (a .count) (a .k) (a .number) 6) (c .if1 .taken) low),
+      omega (arith, b .pre .2),
+    )
+
+returns-2 : tie.Need-returns-2 Inv-loop μ-loop
+returns-2 c =
+    let l = c .before .before in
+    let b = l .before .before .before in
+    let a = b .args in
+    let six : l .loop .i ≡ 6 = omega (arith, l .loop .inv .1, c .before .loop-test .left) in
+    let low : Lowest (a .links .now) (a .back .now) (a .count) (a .k) (a .number) 6 (l .loop .best) = subst (λ (i : ℕ). Lowest (a .links .now) (a .back .now) (a .count) (a .k) (a .number) i (l .loop .best)) six (l .loop .inv .0) in (
+      lowest-found (a .links .now) (a .back .now) (a .count) (a .k) (a .number) (l .loop .best) low (c .if1 .left),
+      omega (arith, low .upto, c .if1 .left),
+    )
+
+pub lowest-spec : {M : Type 1} → statement M
+lowest-spec =
+    tie.close
+    (tie.spec
+    Inv-loop
+    μ-loop
+    loop-holds
+    mul-wide
+    add-wide
+    mul-wide-2
+    shared-slice-read-wide
+    wide-requires
+    better-requires
+    add-i
+    loop-less
+    loop-again
+    returns
+    returns-2)

@@ -1,0 +1,10 @@
+pub mod Ends
+pub mod Linking
+pub mod Marks
+pub mod Joined
+pub mod Slots
+pub mod Outcome
+pub mod Checks
+pub mod Boat
+pub mod Amended
+pub mod Laws

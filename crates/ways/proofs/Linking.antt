@@ -1,0 +1,139 @@
+-- How the table of links is filled: for each axis n and corner k in turn, k and the upper end of its edge are linked both ways. P n k m: on axis n the corners k
+-- and m are to be linked, k the lower.
+use Prim.Native.Nat.{ℕ, zero, suc, _+_, _*_, _≤_, _<_}
+use mathlib.Core.Path.{_≡_, sym, _∙_, subst}
+use mathlib.Core.Logic.{_⊎_, inl, inr}
+use mathlib.Core.List.{List, [], _∷_}
+use native.Mathlib.Omega.{arith}
+use lib.Dec.{T, eqb, eqb→eq}
+use lib.ListN.{length, getD, set, length-set, replicate, length-replicate, getD-replicate, List·getD-eq-default}
+use lib.Seq.{getD-set-same, getD-set-other}
+use borrow.Author.Tests.{eqb-false}
+use Rattle.base.proofs.Tests.{below, either}
+use Rattle.graph.specs.Table.{linkAt, Within}
+
+-- a number of at most 4,872 may stand at any place
+set-within : (t : List ℕ) (a v : ℕ) → Within t → v ≤ 4872 → Within (set t a v)
+set-within [] a v w h x = w x
+set-within (y ∷ t) zero v w h zero = h
+set-within (y ∷ t) zero v w h (suc x) = w (suc x)
+set-within (y ∷ t) (suc a) v w h zero = w 0
+set-within (y ∷ t) (suc a) v w h (suc x) = set-within t a v (λ z. w (suc z)) h x
+
+module _ (size : ℕ) (P : ℕ → ℕ → ℕ → Type 0) where
+  -- the links of the slots before x are in: slot 3 k + n is that of corner k and axis n
+  pub record LinkedTo (t : List ℕ) (x : ℕ) : Type 0 where
+    pub room : length t ≡ 29232
+    pub within : Within t
+    pub up : (n k m : ℕ) → n < 3 → 3 * k + n < x → P n k m → linkAt t k (3 + n) ≡ m
+    pub down : (n k m : ℕ) → n < 3 → 3 * k + n < x → P n k m → linkAt t m n ≡ k
+    pub sound : (j i : ℕ) → j < size → i < 6 → linkAt t j i < size → (n : ℕ) × (P n j (linkAt t j i) ⊎ P n (linkAt t j i) j)
+
+  module _ (few : size ≤ 4872) where
+    pub link-start : (w : ℕ) → w ≡ 29232 → LinkedTo (replicate w 4872) 0
+    link-start w e = record {
+      room = length-replicate w 4872 ∙ e;
+      within = λ x. filled x (below x w);
+      up = λ n k m a b. absurd (omega arith);
+      down = λ n k m a b. absurd (omega arith);
+      sound = λ j i a b c. let u = getD-replicate {A = ℕ} w (6 * j + i) 4872 0 (omega arith) in absurd (omega arith);
+    }
+      where
+        filled : (x : ℕ) → (x < w) ⊎ (w ≤ x) → getD (replicate w 4872) x 0 ≤ 4872
+        filled x (inl a) = let u = getD-replicate {A = ℕ} w x 4872 0 a in omega arith
+        filled x (inr a) =
+            let l = length-replicate {A = ℕ} w 4872 in
+            let u = List·getD-eq-default {A = ℕ} (replicate w 4872) 0 {n = x} (omega arith) in
+            omega arith
+
+    pub link-none : (t : List ℕ) (n k x : ℕ) → n < 3 → x ≡ 3 * k + n → ((m : ℕ) → P n k m → ⊥) → LinkedTo t x → LinkedTo t (x + 1)
+    link-none t n k x h e none known = record {
+      room = known .room;
+      within = known .within;
+      up = λ n' k' m a b p. go n' k' m a b p (λ u. known .up n' k' m a u p) (below (3 * k' + n') x);
+      down = λ n' k' m a b p. go n' k' m a b p (λ u. known .down n' k' m a u p) (below (3 * k' + n') x);
+      sound = known .sound;
+    }
+      where
+        go : {A : Type 0} (n' k' m : ℕ) → n' < 3 → 3 * k' + n' < x + 1 → P n' k' m → (3 * k' + n' < x → A) → (3 * k' + n' < x) ⊎ (x ≤ 3 * k' + n') → A
+        go n' k' m a b p f (inl c) = f c
+        go n' k' m a b p f (inr c) =
+            let u : k' ≡ k = omega arith in
+            let v : n' ≡ n = omega arith in
+            absurd (none m (subst (λ (z : ℕ). P z k m) v (subst (λ (z : ℕ). P n' z m) u p)))
+
+    module _ (functional : (n k m m' : ℕ) → P n k m → P n k m' → m ≡ m') (injective : (n k k' m : ℕ) → P n k m → P n k' m → k ≡ k')
+        (t : List ℕ) (n k m x : ℕ) (h : n < 3) (e : x ≡ 3 * k + n) (lower : k < size) (upper : m < size) (p : P n k m) (known : LinkedTo t x) where
+      abbrev first : List ℕ
+      first = set t (6 * k + (3 + n)) m
+
+      abbrev new : List ℕ
+      new = set first (6 * m + n) k
+
+      fits : length t ≡ 29232
+      fits = known .room
+
+      up-new : linkAt new k (3 + n) ≡ m
+      up-new = getD-set-other first (6 * m + n) (6 * k + (3 + n)) k 0 (λ z. omega arith) ∙ getD-set-same t (6 * k + (3 + n)) m 0 (let f = fits in omega arith)
+
+      down-new : linkAt new m n ≡ k
+      down-new = getD-set-same first (6 * m + n) k 0 (let f = fits in let g = length-set t (6 * k + (3 + n)) m in omega arith)
+
+      -- any other place is as before
+      other : (j i : ℕ) → i < 6 → (6 * j + i ≡ 6 * k + (3 + n) → ⊥) → (6 * j + i ≡ 6 * m + n → ⊥) → linkAt new j i ≡ linkAt t j i
+      other j i a b c = getD-set-other first (6 * m + n) (6 * j + i) k 0 c ∙ getD-set-other t (6 * k + (3 + n)) (6 * j + i) m 0 b
+
+      pub link-next : LinkedTo new (x + 1)
+      link-next = record {
+        room = length-set first (6 * m + n) k ∙ length-set t (6 * k + (3 + n)) m ∙ known .room;
+        within = set-within first (6 * m + n) k (set-within t (6 * k + (3 + n)) m (known .within) (omega arith)) (omega arith);
+        up = λ n' k' m' a b q. ups n' k' m' a b q (below (3 * k' + n') x);
+        down = λ n' k' m' a b q. downs n' k' m' a b q (below (3 * k' + n') x);
+        sound = λ j i a b. sounds j i a b (either (eqb (6 * j + i) (6 * k + (3 + n)))) (either (eqb (6 * j + i) (6 * m + n)));
+      }
+        where
+          here : (n' k' : ℕ) → n' < 3 → 3 * k' + n' < x + 1 → x ≤ 3 * k' + n' → (n' ≡ n) × (k' ≡ k)
+          here n' k' a b c = (omega arith, omega arith)
+
+          ups : (n' k' m' : ℕ) → n' < 3 → 3 * k' + n' < x + 1 → P n' k' m' → (3 * k' + n' < x) ⊎ (x ≤ 3 * k' + n') → linkAt new k' (3 + n') ≡ m'
+          ups n' k' m' a b q (inl c) = other k' (3 + n') (omega arith) (λ z. omega arith) (λ z. omega arith) ∙ known .up n' k' m' a c q
+          ups n' k' m' a b q (inr c) =
+              let (u, v) = here n' k' a b c in
+              let q' : P n k m' = subst (λ (z : ℕ). P z k m') u (subst (λ (z : ℕ). P n' z m') v q) in
+              (λ d. linkAt new (v d) (3 + u d)) ∙ up-new ∙ functional n k m m' p q'
+
+          downs : (n' k' m' : ℕ) → n' < 3 → 3 * k' + n' < x + 1 → P n' k' m' → (3 * k' + n' < x) ⊎ (x ≤ 3 * k' + n') → linkAt new m' n' ≡ k'
+          downs n' k' m' a b q (inr c) =
+              let (u, v) = here n' k' a b c in
+              let q' : P n k m' = subst (λ (z : ℕ). P z k m') u (subst (λ (z : ℕ). P n' z m') v q) in
+              let w = functional n k m' m q' p in
+              (λ d. linkAt new (w d) (u d)) ∙ down-new ∙ sym v
+          downs n' k' m' a b q (inl c) = other m' n' (omega arith) (λ z. omega arith) apart ∙ known .down n' k' m' a c q
+            where
+              apart : 6 * m' + n' ≡ 6 * m + n → ⊥
+              apart z =
+                  let u : m' ≡ m = omega arith in
+                  let v : n' ≡ n = omega arith in
+                  let q' : P n k' m = subst (λ (y : ℕ). P y k' m) v (subst (λ (y : ℕ). P n' k' y) u q) in
+                  let w = injective n k' k m q' p in
+                  omega arith
+
+          sounds : (j i : ℕ) → j < size → i < 6 → T (eqb (6 * j + i) (6 * k + (3 + n))) ⊎ (eqb (6 * j + i) (6 * k + (3 + n)) ≡ mathlib.Core.Bool.false) →
+              T (eqb (6 * j + i) (6 * m + n)) ⊎ (eqb (6 * j + i) (6 * m + n) ≡ mathlib.Core.Bool.false) →
+              linkAt new j i < size → (r : ℕ) × (P r j (linkAt new j i) ⊎ P r (linkAt new j i) j)
+          sounds j i a b (inl c) d l =
+              let z = eqb→eq (6 * j + i) (6 * k + (3 + n)) c in
+              let u : j ≡ k = omega arith in
+              let v : i ≡ 3 + n = omega arith in
+              let w : linkAt new j i ≡ m = (λ y. linkAt new (u y) (v y)) ∙ up-new in
+              (n, inl (subst (λ (y : ℕ). P n j y) (sym w) (subst (λ (y : ℕ). P n y m) (sym u) p)))
+          sounds j i a b (inr c) (inl d) l =
+              let z = eqb→eq (6 * j + i) (6 * m + n) d in
+              let u : j ≡ m = omega arith in
+              let v : i ≡ n = omega arith in
+              let w : linkAt new j i ≡ k = (λ y. linkAt new (u y) (v y)) ∙ down-new in
+              (n, inr (subst (λ (y : ℕ). P n y j) (sym w) (subst (λ (y : ℕ). P n k y) (sym u) p)))
+          sounds j i a b (inr c) (inr d) l =
+              let w = other j i b (eqb-false (6 * j + i) (6 * k + (3 + n)) c) (eqb-false (6 * j + i) (6 * m + n) d) in
+              let (r, s) = known .sound j i a b (omega arith) in
+              (r, subst (λ (y : ℕ). P r j y ⊎ P r y j) (sym w) s)
