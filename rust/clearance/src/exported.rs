@@ -50,6 +50,13 @@ pub struct Water {
     pub sixfold: i64,
 }
 
+/// What showing a way returns.
+#[repr(C)]
+pub struct Passage {
+    pub number: u32,
+    pub corners: u32,
+}
+
 extern "C" {
     fn clearance_version() -> u32;
 
@@ -117,6 +124,22 @@ extern "C" {
         triangles: *mut u32,
         triangles_length: usize,
     ) -> Water;
+
+    fn clearance_way(
+        cells: *const u8,
+        cells_length: usize,
+        corners: *const u8,
+        corners_length: usize,
+        amendments: *const u8,
+        amendments_length: usize,
+        clearance: f32,
+        start: u32,
+        end: u32,
+        way: *mut u16,
+        way_length: usize,
+        work: *mut u16,
+        work_length: usize,
+    ) -> Passage;
 }
 
 pub fn version() -> u32 {
@@ -228,6 +251,33 @@ pub fn volume(
             points.len(),
             triangles.as_mut_ptr(),
             triangles.len(),
+        )
+    }
+}
+
+pub fn way(
+    Survey { cells, corners, amendments }: Survey,
+    clearance: f32,
+    [start, end]: [u32; 2],
+    way: &mut [u16],
+    work: &mut [u16],
+) -> Passage {
+    // SAFETY: as for `draw`. The start and the end are plain numbers.
+    unsafe {
+        clearance_way(
+            cells.as_ptr(),
+            cells.len(),
+            corners.as_ptr(),
+            corners.len(),
+            amendments.as_ptr(),
+            amendments.len(),
+            clearance,
+            start,
+            end,
+            way.as_mut_ptr(),
+            way.len(),
+            work.as_mut_ptr(),
+            work.len(),
         )
     }
 }

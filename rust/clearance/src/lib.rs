@@ -2,9 +2,10 @@
 //!
 //! A [survey](Survey) is a cell table (an octree), a corner table (a sounding at every corner of every cell) and amendments to that, all as bytes. At a
 //! clearance, given by hand or by a calendar and a minute, the surface between wet and dry corners is drawn as points on the octree's edges and triangles
-//! between them. The calls are those of document 01, with what the requests of document 02 add and change; what they return, and what they write, is
-//! proved equal to the documents' rules for every input. What can't be drawn is refused by one of the seventeen [refusals](Refusal). What is drawn is
-//! closed: between any two points triangles run one way as often as the other. So the space inside is one number, wherever it is reckoned from.
+//! between them; and from corner to corner the shortest [way] over wet ones is shown. The calls are those of document 01, with what the requests of document
+//! 02 add and change; what they return, and what they write, is proved equal to the documents' rules for every input. What can't be drawn or shown is refused
+//! by one of the twenty [refusals](Refusal). What is drawn is closed: between any two points triangles run one way as often as the other. So the space inside
+//! is one number, wherever it is reckoned from.
 //!
 //! Nothing is kept between calls and nothing is allocated inside them, so any number of threads may call. A call needs less than 576 KiB of stack.
 //!
@@ -80,13 +81,16 @@ mod outputs;
 mod refusal;
 mod survey;
 
-pub use outputs::{Counts, Edge, End, Mesh, Refused, Water};
+pub use outputs::{Counts, Edge, End, Mesh, Passage, Refused, Water};
 pub use refusal::Refusal;
 pub use survey::Survey;
 
 /// The number of the calls that this crate makes, as `CLEARANCE_VERSION` in the C header. It goes up with every change of what a call takes, returns or
 /// refuses, and with every call that is added.
-pub const VERSION: u32 = 1;
+pub const VERSION: u32 = 2;
+
+/// The size of a corner record in bytes.
+const CORNER_BYTES: usize = 12;
 
 /// The number of the calls that the archive has. It is [`VERSION`], unless `CLEARANCE_LIB` named another archive when this crate was built.
 ///
@@ -377,6 +381,100 @@ pub fn volume(
 /// The first refusal of [`check`], then 8, 12 and 13, that applies.
 pub fn volume_to_vec(survey: Survey, clearance: f32, reference: [u32; 3]) -> Result<(Mesh, Water), Refusal> {
     into_vectors(|points, triangles| volume(survey, clearance, reference, points, triangles))
+}
+
+/// Shows a way from corner to corner, both given by record number: corners joined by edges that are not divided, each wet in the survey as amended, with
+/// the fewest steps. Of equally short ways it is the one with the lowest corner at the first place where they differ. A wet corner has a way of one corner
+/// to itself. A pool that runs out of the surveyed box ([`Refusal::OpenAtBox`]) serves as any other.
+///
+/// `Ok(Some(count))`: the first `count` elements of `way` are the way's corners, from the start to the end. `Ok(None)`: there is no way, and `way` is
+/// untouched. With both, `work` holds for each corner its fewest steps from the start plus one, or 0 if it is out of reach; all are 0 if the start is dry.
+/// Elements past these are untouched. Both slices must have as many elements as the corner table has records, however short the way is.
+///
+/// [`way_to_vec`] shows it in vectors of its own.
+///
+/// ```
+/// use clearance::{way, Refusal, Survey};
+///
+/// fn record(number: u16, sounding: f32) -> Vec<u8> {
+///     let place = [0, 1, 2].map(|axis| 1_024 * (number >> axis & 1));
+///     let place = place.iter().flat_map(|coordinate| coordinate.to_le_bytes());
+///     place.chain(sounding.to_le_bytes()).chain(0u16.to_le_bytes()).collect()
+/// }
+///
+/// // The box is one leaf, and all of its eight corners are wet: 0 to 3 at the bottom, 4 to 7 above them.
+/// let corners: Vec<u8> = (0..8).flat_map(|number| record(number, 1.0)).collect();
+/// let survey = Survey::new(&[0; 4], &corners);
+/// let (mut shown, mut work) = ([0; 8], [0; 8]);
+/// assert_eq!(way(survey, 0.0, 0, 3, &mut shown, &mut work)?, Some(3));
+/// assert_eq!((&shown[..3], work), (&[0, 1, 3][..], [1, 2, 2, 3, 2, 3, 3, 4]));
+///
+/// // Corner 1 has silted up, then corner 2 too, then corner 7 on the way around both.
+/// let silted = [1, 2, 7].map(|number| record(number, -1.0)).concat();
+/// assert_eq!(way(survey.amended(&silted[..12]), 0.0, 0, 3, &mut shown, &mut work)?, Some(3));
+/// assert_eq!(shown[..3], [0, 2, 3]);
+/// assert_eq!(way(survey.amended(&silted[..24]), 0.0, 0, 3, &mut shown, &mut work)?, Some(5));
+/// assert_eq!(shown[..5], [0, 4, 5, 7, 3]);
+/// assert_eq!(way(survey.amended(&silted), 0.0, 0, 3, &mut shown, &mut work)?, None);
+/// assert_eq!(work, [1, 0, 0, 0, 2, 3, 3, 0]);
+///
+/// assert_eq!(way(survey, 0.0, 0, 8, &mut shown, &mut work), Err(Refusal::WayEnd));
+/// assert_eq!(way(survey, 0.0, 0, 0, &mut shown[..7], &mut work), Err(Refusal::WaySlice));
+/// # Ok::<(), Refusal>(())
+/// ```
+///
+/// # Errors
+///
+/// The first refusal of [`check`], then 8, 18 and 19, that applies; then neither slice was touched.
+pub fn way(
+    survey: Survey,
+    clearance: f32,
+    start: u32,
+    end: u32,
+    way: &mut [u16],
+    work: &mut [u16],
+) -> Result<Option<usize>, Refusal> {
+    let exported::Passage { number, corners } = exported::way(survey, clearance, [start, end], way, work);
+    assert!(number == 0 || corners == 0, "refusal {number} with {corners} corners");
+    match passed(number) {
+        Ok(()) => Ok(Some(corners as usize)),
+        Err(Refusal::NoWay) => Ok(None),
+        Err(refusal) => Err(refusal),
+    }
+}
+
+/// Shows a way as [`way`] does, in vectors that are exactly long enough.
+///
+/// ```
+/// use clearance::{way_to_vec, Survey};
+///
+/// // The twin survey's one wet corner, (256, 512, 512), is record 31; the last one, 45, is (1024, 1024, 1024).
+/// let cells = std::fs::read("../../examples/twin/cells")?;
+/// let corners = std::fs::read("../../examples/twin/corners")?;
+/// let survey = Survey::new(&cells, &corners);
+/// let nowhere = way_to_vec(survey, 0.0, 31, 45)?;
+/// assert_eq!(nowhere.way, None);
+/// assert_eq!((nowhere.steps[31], nowhere.steps[45]), (Some(0), None));
+///
+/// // Below a clearance of -1 every corner is wet.
+/// let through = way_to_vec(survey, -2.0, 31, 45)?;
+/// assert_eq!(through.way, Some(vec![31, 32, 33, 36, 45]));
+/// assert_eq!(through.steps[45], Some(4));
+/// # Ok::<(), Box<dyn std::error::Error>>(())
+/// ```
+///
+/// # Errors
+///
+/// The first refusal of [`check`], then 8 and 18, that applies.
+pub fn way_to_vec(survey: Survey, clearance: f32, start: u32, end: u32) -> Result<Passage, Refusal> {
+    let records = survey.corners.len() / CORNER_BYTES;
+    let (mut shown, mut work) = (vec![0; records], vec![0; records]);
+    let count = way(survey, clearance, start, end, &mut shown, &mut work)?;
+    let way = count.map(|count| {
+        shown.truncate(count);
+        shown
+    });
+    Ok(Passage { way, steps: work.into_iter().map(|one_more| one_more.checked_sub(1)).collect() })
 }
 
 /// Makes a call that draws with empty slices for its counts, then with vectors that are exactly long enough. An empty drawing is done after the first.

@@ -146,3 +146,12 @@ pub struct Mesh {
     /// loop may turn the other way.
     pub triangles: Vec<[u32; 3]>,
 }
+
+/// An answer to "Can she get through?" in vectors of its own.
+#[derive(Clone, Debug, Default, PartialEq, Eq)]
+pub struct Passage {
+    /// The corners of the way by record number, from the start to the end; `None` if there is no way.
+    pub way: Option<Vec<u16>>,
+    /// For each corner, by record number, its fewest steps from the start over wet corners; `None` if it is out of reach. From a dry start all are.
+    pub steps: Vec<Option<u16>>,
+}

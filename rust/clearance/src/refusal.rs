@@ -2,8 +2,8 @@
 
 use std::fmt;
 
-/// Why a survey, a clearance, a calendar, a lent slice, an edge or a reference point is refused. Checks run in rising number, but for 12 and 13, which
-/// stand between 8 and 9, 14 and 15, which stand between 6 and 7, and 16 and 17, which stand between 7 and 8; the first that applies is given.
+/// Why a survey, a clearance, a calendar, a lent slice, an edge, a reference point or a way is refused. Checks run in rising number, but for 12 and 13,
+/// which stand between 8 and 9, 14 and 15, which stand between 6 and 7, and 16 and 17, which stand between 7 and 8; the first that applies is given.
 ///
 /// So refusals compare by number and not by the order of checks: only [`PointSlice`](Refusal::PointSlice) and
 /// [`TriangleSlice`](Refusal::TriangleSlice) say that there is a drawing, and of the others that drawing gives 12 and 14 to 17 are above both.
@@ -58,6 +58,13 @@ pub enum Refusal {
     Calendar = 16,
     /// The minute is in no record of the calendar. An empty calendar has none for any minute.
     Minute = 17,
+    /// The start or the end of the way asked for is no corner: its number is not below the corner count.
+    WayEnd = 18,
+    /// The way slice or the work slice is shorter than the corner count, however short the way is.
+    WaySlice = 19,
+    /// No way over wet corners leads from the start to the end; the start or the end itself may be dry. [`way`](crate::way) gives `Ok(None)` for it, since
+    /// the work slice is written.
+    NoWay = 20,
 }
 
 impl Refusal {
@@ -80,9 +87,12 @@ impl Refusal {
         Refusal::AmendmentPlace,
         Refusal::Calendar,
         Refusal::Minute,
+        Refusal::WayEnd,
+        Refusal::WaySlice,
+        Refusal::NoWay,
     ];
 
-    /// The refusal's number in the documents: 1 to 17.
+    /// The refusal's number in the documents: 1 to 20.
     pub const fn number(self) -> u32 {
         self as u32
     }
@@ -120,6 +130,9 @@ impl fmt::Display for Refusal {
             Refusal::AmendmentPlace => "an amendment is at no cell's corner",
             Refusal::Calendar => "the calendar is not whole records or breaks a rule of calendars",
             Refusal::Minute => "the minute is in no record of the calendar",
+            Refusal::WayEnd => "the start or the end is no corner",
+            Refusal::WaySlice => "the way slice or the work slice is shorter than the corner count",
+            Refusal::NoWay => "no way over wet corners leads from the start to the end",
         })
     }
 }
