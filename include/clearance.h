@@ -3,8 +3,9 @@
  *
  * A survey is a cell table (an octree), a corner table (a sounding at every corner of every cell) and amendments to that (corners sounded again). At a
  * clearance, given by hand or by a calendar and a minute, the surface between wet and dry corners is drawn as points on the octree's edges and triangles
- * between them. The calls are those of document 01, the scope document, with what the requests of document 02 add and change; what they return, and what
- * they write, is proved equal to the documents' rules for every input.
+ * between them; the space inside is reckoned; and from corner to corner the shortest way over wet ones is shown. The calls are those of document 01, the
+ * scope document, with what the requests of document 02 add and change; what they return, and what they write, is proved equal to the documents' rules for
+ * every input.
  *
  * BUILDING
  *
@@ -67,7 +68,7 @@
  * A slice passes as a pointer and a number of elements (not bytes). It is lent for the call: nothing of it is kept, and it stays the caller's to free.
  *
  *   - Cell, corner and amendment tables and calendars are read only, may lie at any address, and may overlap each other.
- *   - Point and triangle slices are aligned to 4 bytes and overlap no other slice.
+ *   - Point and triangle slices are aligned to 4 bytes, way and work slices to 2, and each overlaps no other slice.
  *   - A slice of 0 elements may have any pointer, NULL too: it is not followed.
  *   - Nobody else writes to a slice while the call runs.
  *
@@ -79,15 +80,16 @@
  *
  * REFUSALS
  *
- * What can't be drawn is refused by a number, enum clearance_refusal below. Checks run in rising number, but for 12 and 13, which stand between 8 and 9,
- * 14 and 15, which stand between 6 and 7, and 16 and 17, which stand between 7 and 8; the first that applies is returned. A refused call has written
- * nothing. In their order:
+ * What can't be drawn or shown is refused by a number, enum clearance_refusal below. Checks run in rising number, but for 12 and 13, which stand between 8
+ * and 9, 14 and 15, which stand between 6 and 7, and 16 and 17, which stand between 7 and 8; the first that applies is returned. A refused call has written
+ * nothing, but for 20, with which the work slice is written, and it alone. In their order:
  *
  *   clearance_check              1 2 3 4 5 6 14 15 7
  *   clearance_enquire            1 2 3 4 5 6 14 15 7 8 11
  *   clearance_draw               1 2 3 4 5 6 14 15 7 8 12 9 10
  *   clearance_draw_by_calendar   1 2 3 4 5 6 14 15 7 16 17 8 12 9 10
  *   clearance_volume             1 2 3 4 5 6 14 15 7 8 12 13 9 10
+ *   clearance_way                1 2 3 4 5 6 14 15 7 8 18 19 20
  *
  * So a number's size does not tell what it means. A drawing is there to be had with 0, CLEARANCE_POINT_SLICE and CLEARANCE_TRIANGLE_SLICE, and with
  * nothing else: ask for these by name. A program that takes every number from CLEARANCE_POINT_SLICE on for a drawing takes a pool that is open at the
@@ -104,7 +106,7 @@ extern "C" {
 #endif
 
 /* The number of the calls below. It goes up by 1 with every change of what a call takes, returns or refuses, and with every call that is added. */
-#define CLEARANCE_VERSION 1
+#define CLEARANCE_VERSION 2
 
 /* The size of a corner record, and of an amendment, in bytes. */
 #define CLEARANCE_CORNER_BYTES 12
@@ -136,7 +138,10 @@ enum clearance_refusal {
     CLEARANCE_AMENDMENT_TABLE = 14, /* the amendment table is not whole records or over 12,000 bytes */
     CLEARANCE_AMENDMENT_PLACE = 15, /* an amendment is at no cell's corner */
     CLEARANCE_CALENDAR = 16, /* the calendar is not whole records or breaks a rule of calendars */
-    CLEARANCE_MINUTE = 17 /* the minute is in no record of the calendar */
+    CLEARANCE_MINUTE = 17, /* the minute is in no record of the calendar */
+    CLEARANCE_WAY_END = 18, /* the start or the end is no corner */
+    CLEARANCE_WAY_SLICE = 19, /* the way slice or the work slice is shorter than the corner count */
+    CLEARANCE_NO_WAY = 20 /* no way over wet corners leads from the start to the end */
 };
 
 /* The words of a number that was returned: those beside it in enum clearance_refusal. */
@@ -161,6 +166,9 @@ static inline const char *clearance_words(uint32_t number)
     case CLEARANCE_AMENDMENT_PLACE: return "an amendment is at no cell's corner";
     case CLEARANCE_CALENDAR: return "the calendar is not whole records or breaks a rule of calendars";
     case CLEARANCE_MINUTE: return "the minute is in no record of the calendar";
+    case CLEARANCE_WAY_END: return "the start or the end is no corner";
+    case CLEARANCE_WAY_SLICE: return "the way slice or the work slice is shorter than the corner count";
+    case CLEARANCE_NO_WAY: return "no way over wet corners leads from the start to the end";
     default: return "no refusal has this number";
     }
 }
@@ -271,6 +279,29 @@ struct clearance_water {
 struct clearance_water clearance_volume(const uint8_t *cells, size_t cells_length, const uint8_t *corners, size_t corners_length,
     const uint8_t *amendments, size_t amendments_length, float clearance, struct clearance_reference reference, float *points, size_t points_length,
     uint32_t *triangles, size_t triangles_length);
+
+/* What a call that shows a way returns. */
+struct clearance_passage {
+    uint32_t number; /* 0 if shown, else the first refusal that applies */
+    uint32_t corners; /* how many corners the way has; 0 with every refusal */
+};
+
+/*
+ * Shows a way from the corner `start` to the corner `end`, both given by record number in the corner table, counted from 0: corners, each joined to the
+ * next by an edge that is not divided, each wet in the survey as amended, with the fewest steps. Of equally short ways it is the one with the lowest
+ * record number at the first place where they differ. A wet corner has a way of one corner to itself. A survey that is open at the box (12) is answered
+ * for as any other.
+ *
+ * With 0 the first elements of `way` are the record numbers of the way's corners, from the start to the end. With 0 and 20 `work` holds for each corner, by
+ * record number, its fewest steps from the start over wet corners plus one, or 0 if it is out of reach; all are 0 if the start is dry. Elements past these
+ * are untouched, and so is all of `way` with 20. That is returned only if there is no way; there is none where the start or the end is dry.
+ *
+ * Both slices must have as many elements as the corner table has records, corners_length / CLEARANCE_CORNER_BYTES, however short the way is (19). So a
+ * slice at NULL, which has 0 elements, is refused.
+ */
+struct clearance_passage clearance_way(const uint8_t *cells, size_t cells_length, const uint8_t *corners, size_t corners_length,
+    const uint8_t *amendments, size_t amendments_length, float clearance, uint32_t start, uint32_t end, uint16_t *way, size_t way_length, uint16_t *work,
+    size_t work_length);
 
 #ifdef __cplusplus
 }
