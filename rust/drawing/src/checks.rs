@@ -1,5 +1,5 @@
 //! Checks 1 to 8: document 01, "Outputs and refusals". Checks 12 to 15: document 02, "Basins cut off by the box", "Water in
-//! the pool" and "Resounding a few corners". Checks 16 and 17 are those of a calendar.
+//! the pool" and "Resounding a few corners". Checks 16 and 17 are those of a calendar, 18 to 20 those of a way.
 
 use crate::amendments::amend;
 use crate::refusal::Refusal;

@@ -7,7 +7,8 @@
 //!
 //! The modules follow the way of the data: [`check`] reads a survey and amends it; a calendar may say at which clearance it
 //! is drawn; edge-trees are built over its cells; crossing points are numbered on them; face steps and twin steps make the
-//! loops of each leaf; loops are cut into triangles; and the space inside these is reckoned.
+//! loops of each leaf; loops are cut into triangles; and the space inside these is reckoned. Over edges of which both ends are
+//! wet the shortest way from corner to corner is shown.
 
 mod amendments;
 mod calendar;
@@ -20,12 +21,14 @@ mod outputs;
 mod refusal;
 mod survey;
 mod volume;
+mod way;
 
 use crossings::Crossings;
 use edges::EdgeTrees;
 pub use outputs::{Drawing, Drawn};
 use refusal::Refusal;
 pub use volume::Water;
+pub use way::Passage;
 
 /// The tables of a survey, lawful or not.
 #[derive(Clone, Copy, Debug)]
@@ -146,5 +149,21 @@ pub fn volume(
             Water { drawn, sixfold }
         }
         Err(refusal) => Water { drawn: Drawn::refused(refusal), sixfold: 0 },
+    }
+}
+
+/// Shows in lent slices a way from a start to an end, both corners given by record number: document 02, "Can she get
+/// through?". The refusals are those of [`check`], then 8, 18, 19 and 20; only 20 writes, and the work slice alone.
+pub fn way(
+    survey: Survey,
+    clearance: f32,
+    start: u32,
+    end: u32,
+    way: &mut [u16],
+    work: &mut [u16],
+) -> Passage {
+    match way::show(survey, clearance, [start, end], way, work) {
+        Ok(corners) => Passage { number: 0, corners: corners as u32 },
+        Err(refusal) => Passage { number: refusal.number(), corners: 0 },
     }
 }

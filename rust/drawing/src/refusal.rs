@@ -1,6 +1,6 @@
 //! The refusals of document 01's table and document 02's requests, by name.
 
-/// Why a survey, a clearance, a calendar, a lent slice, an edge or a reference point is refused. Checks run in rising
+/// Why a survey, a clearance, a calendar, a lent slice, an edge, a reference point or a way is refused. Checks run in rising
 /// number, but for 12 and 13, which stand between 8 and 9, 14 and 15, which stand between 6 and 7, and 16 and 17, which
 /// stand between 7 and 8.
 #[derive(Clone, Copy, Debug, PartialEq, Eq)]
@@ -40,6 +40,12 @@ pub(crate) enum Refusal {
     Calendar = 16,
     /// The minute is in no record of the calendar.
     Minute = 17,
+    /// The start or the end of a way is no corner.
+    WayEnd = 18,
+    /// The way slice or the work slice is shorter than the corner count.
+    WaySlice = 19,
+    /// No way leads from the start to the end.
+    NoWay = 20,
 }
 
 impl Refusal {
