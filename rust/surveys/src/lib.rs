@@ -7,22 +7,27 @@
 //! - [`amendments`]: random days and amendments that leave the soundings in force as they are.
 //! - [`calendars`]: calendars, and random ones asked at a minute, each with the clearance in force or the refusal.
 //! - [`seasons`]: calendars asked at a minute of which the same can be said by hand.
+//! - [`ways`]: surveys of which the way from a corner to another can be said by hand, and the order of its refusals.
+//! - [`asked`]: random questions about ways, and random surveys whose ways are long.
 //! - [`sized`]: surveys of a given number of splits, a kind for each shape that a drawing may be slow on.
 //! - [`damage`]: random damaged surveys, each with the refusal it must meet.
 //! - [`lent`]: what stands in lent slices before a drawing, to see what it touches.
 //! - [`references`]: points to reckon the space inside a drawing from, in the box and beyond it.
 //! - [`tally`]: how many surveys of a comparison were drawn, how many of these are amended, and how many refused at the
 //!   box.
-//! - [`refusals`], [`plain`], [`closing`], [`water`]: the documents' checks, their edges, points and records in force, "What
-//!   closing says" and the space inside, written for the reader and not for speed, and with nothing shared with any drawing.
+//! - [`refusals`], [`plain`], [`joints`], [`closing`], [`water`]: the documents' checks, their edges, points and records in force,
+//!   all ways over wet corners, "What closing says" and the space inside, written for the reader and not for speed, and with
+//!   nothing shared with any drawing.
 
 pub mod amendments;
+pub mod asked;
 pub mod calendars;
 pub mod closing;
 pub mod damage;
 pub mod document;
 mod expected;
 pub mod generate;
+pub mod joints;
 pub mod lent;
 mod long_loop;
 pub mod plain;
@@ -38,5 +43,6 @@ pub mod tally;
 mod trees;
 pub mod volumes;
 pub mod water;
+pub mod ways;
 
 pub use survey::Survey;

@@ -1,9 +1,11 @@
-//! Checks 1 to 8 in the words of document 01, "Outputs and refusals"; checks 12 to 17 in those of document 02, "Basins cut
-//! off by the box", "Water in the pool", "Resounding a few corners" and "Clearance by calendar". Nothing here is fast.
+//! Checks 1 to 8 in the words of document 01, "Outputs and refusals"; checks 12 to 20 in those of document 02, "Basins cut
+//! off by the box", "Water in the pool", "Resounding a few corners", "Clearance by calendar" and "Can she get through?".
+//! Nothing here is fast.
 
 use std::collections::BTreeSet;
 
 use crate::calendars::{Period, YEAR_END};
+use crate::joints::Joints;
 use crate::plain::{entries, in_force, octree, periods, records};
 use crate::survey::{on_outer_face, Record, DEEPEST};
 use crate::Survey;
@@ -29,6 +31,15 @@ pub const CALENDAR: u32 = 16;
 /// The refusal for a minute in no record of the calendar, given by a drawing by calendar alone.
 pub const MINUTE: u32 = 17;
 
+/// The refusal for a start or an end that is no corner, given by a way alone, as are the next two.
+pub const WAY_END: u32 = 18;
+
+/// The refusal for a way slice or a work slice that is shorter than the corner count.
+pub const WAY_SLICE: u32 = 19;
+
+/// The refusal where there is no way.
+pub const NO_WAY: u32 = 20;
+
 /// The first refusal of a drawing that the lent slices have no part in: those of [`ORDER`], then 12; 0 if there is none.
 pub fn of_drawing(survey: &Survey) -> u32 {
     match first(survey) {
@@ -52,6 +63,19 @@ pub fn of_drawing_by_calendar(survey: &Survey, calendar: &[u8], minute: u32) -> 
         (0, Ok(clearance)) => of_drawing(&survey.clone().at(clearance)),
         (0, Err(refusal)) => refusal,
         (refusal, _) => refusal,
+    }
+}
+
+/// The refusal of a way: those of [`ORDER`], then 18, 19 and 20; 0 if there is none. The rooms are how many elements the way slice and the work slice
+/// have.
+pub fn of_way(survey: &Survey, [start, end]: [u32; 2], rooms: [usize; 2]) -> u32 {
+    let corners = records(&survey.corners).count();
+    let is_corner = |number: u32| (number as usize) < corners;
+    match first(survey) {
+        0 if !is_corner(start) || !is_corner(end) => WAY_END,
+        0 if rooms[0] < corners || rooms[1] < corners => WAY_SLICE,
+        0 if !Joints::read(survey).reach(start as u16).contains(&(end as u16)) => NO_WAY,
+        number => number,
     }
 }
 
