@@ -4,13 +4,15 @@
 //! `CLEARANCE_SMALL` and `CLEARANCE_LARGE` set how many random surveys there are.
 
 mod comparing;
+mod how_many;
 mod lending;
 mod number;
 mod tables;
 
 use clearance::Counts;
-use comparing::{assert_same_slices, drawn, large, small};
+use comparing::{assert_same_slices, drawn};
 use drawing::Drawn;
+use how_many::{large, small};
 use lending::{compiled, uncompiled};
 use number::number;
 use surveys::calendars::{self, minute_by_minute, Asked, YEAR_END};

@@ -5,13 +5,15 @@
 //! `CLEARANCE_SMALL` and `CLEARANCE_LARGE` set how many random surveys there are.
 
 mod comparing;
+mod how_many;
 mod lending;
 mod number;
 mod tables;
 
 use clearance::Refusal;
-use comparing::{assert_same_slices, large, small};
+use comparing::assert_same_slices;
 use drawing::Drawn;
+use how_many::{large, small};
 use lending::{compiled, uncompiled};
 use number::number;
 use surveys::lent::{bits, Slices};

@@ -4,12 +4,14 @@
 //! how many there were of each. `CLEARANCE_SMALL` and `CLEARANCE_LARGE` set how many random surveys there are.
 
 mod comparing;
+mod how_many;
 mod number;
 mod tables;
 
 use clearance::{Counts, Mesh};
-use comparing::{assert_same_slices, drawn, large, refused, small};
+use comparing::{assert_same_slices, drawn, refused};
 use drawing::{Drawn, Water};
+use how_many::{large, small};
 use number::number;
 use surveys::lent::{bits, lend, Slices};
 use surveys::plain::Plain;

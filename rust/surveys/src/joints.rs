@@ -6,6 +6,17 @@ use std::collections::{BTreeSet, HashMap};
 use crate::plain::{records, Plain};
 use crate::Survey;
 
+/// What is due of a question about two corners.
+#[derive(Clone, Debug)]
+pub struct Due {
+    /// The start and the end.
+    pub ends: [u16; 2],
+    /// The way, if there is one.
+    pub way: Option<Vec<u16>>,
+    /// For each corner its fewest steps from the start plus one, or 0 if it is out of reach.
+    pub work: Vec<u16>,
+}
+
 /// The corners of a survey and the undivided edges between them.
 pub struct Joints {
     /// Whether each corner is wet.
@@ -71,6 +82,26 @@ impl Joints {
         ways
     }
 
+    /// What is due of every two wet corners, and of a dry one, in order: of all ways to the end those with the fewest steps, and of these the one with the
+    /// lowest number at the first place where they differ.
+    pub fn due(&self) -> Vec<Due> {
+        let numbers = 0..self.wet.len() as u16;
+        let (wet, dry): (Vec<u16>, Vec<u16>) = numbers.clone().partition(|&corner| self.is_wet(corner));
+        let some: Vec<u16> = wet.into_iter().chain(dry.first().copied()).collect();
+        let from = |&start: &u16| {
+            let ways = self.all_ways(start);
+            let work: Vec<u16> =
+                numbers.clone().map(|end| shortest(&ways, end).map_or(0, |way| way.len() as u16)).collect();
+            let due = |&end: &u16| Due {
+                ends: [start, end],
+                way: shortest(&ways, end).cloned(),
+                work: work.clone(),
+            };
+            some.iter().map(due).collect::<Vec<Due>>()
+        };
+        some.iter().flat_map(from).collect()
+    }
+
     /// Whether another way is as short as this one: some corner of it is joined to two that are one step nearer to the start. For each corner its fewest
     /// steps plus one are given.
     pub fn is_tied(&self, way: &[u16], work: &[u16]) -> bool {
@@ -81,8 +112,7 @@ impl Joints {
     }
 }
 
-/// Of the ways to an end that with the fewest steps, and of equally short ones that with the lowest number at the first place where they differ.
-pub fn shortest(ways: &[Vec<u16>], end: u16) -> Option<&Vec<u16>> {
+fn shortest(ways: &[Vec<u16>], end: u16) -> Option<&Vec<u16>> {
     let to_end = ways.iter().filter(|way| way.last() == Some(&end));
     to_end.min_by(|one, other| one.len().cmp(&other.len()).then_with(|| one.cmp(other)))
 }

@@ -1,6 +1,7 @@
 //! Surveys of which the way from a corner to another can be said by hand, and the order of refusals: document 02, "Can she get through?".
 
 use crate::document::{level, one_corner_wet, wet_at};
+use crate::joints::Due;
 use crate::refusals::{AMENDMENT_PLACE, AMENDMENT_TABLE, NO_WAY, WAY_END, WAY_SLICE};
 use crate::survey::{Octree, Record};
 use crate::Survey;
@@ -11,12 +12,8 @@ pub struct Known {
     pub name: &'static str,
     /// The survey.
     pub survey: Survey,
-    /// The start and the end.
-    pub ends: [u16; 2],
-    /// The way, if there is one.
-    pub way: Option<Vec<u16>>,
-    /// For each corner its fewest steps from the start plus one, or 0 if it is out of reach.
-    pub work: Vec<u16>,
+    /// The question and the answer.
+    pub due: Due,
 }
 
 /// One leaf, in which these corners are wet. Corner n is in place n: of the upper half of x, y and z by its bits.
@@ -69,13 +66,8 @@ type Listed = (&'static str, Survey, [u16; 2], &'static [u16], [u16; 8]);
 
 impl From<Listed> for Known {
     fn from((name, survey, ends, way, work): Listed) -> Known {
-        Known {
-            name,
-            survey,
-            ends,
-            way: Some(way.to_vec()).filter(|way| !way.is_empty()),
-            work: work.to_vec(),
-        }
+        let way = Some(way.to_vec()).filter(|way| !way.is_empty());
+        Known { name, survey, due: Due { ends, way, work: work.to_vec() } }
     }
 }
 
@@ -170,9 +162,7 @@ fn grids() -> Vec<Known> {
     let shown = |name, ends: [u16; 2], way: &[u16]| Known {
         name,
         survey: grid(),
-        ends,
-        way: Some(way.to_vec()),
-        work: grid_work(ends[0]),
+        due: Due { ends, way: Some(way.to_vec()), work: grid_work(ends[0]) },
     };
     vec![
         shown("through the whole box", [0, 26], &[0, 1, 2, 5, 8, 17, 26]),
@@ -182,39 +172,29 @@ fn grids() -> Vec<Known> {
     ]
 }
 
-/// The cells of the twin survey: the edge from (0, 0, 0), record 0, to (512, 0, 0), record 2, is divided at (256, 0, 0), record 1.
+/// The cells of the twin survey, of 46 corners: the edge from (0, 0, 0), record 0, to (512, 0, 0), record 2, is divided at (256, 0, 0), record 1; the one
+/// from there to (1024, 0, 0), record 3, is not.
 fn divided_edges() -> Vec<Known> {
-    let work = |reached: &[(usize, u16)]| {
-        let mut work = vec![0; 46];
-        reached.iter().for_each(|&(corner, steps)| work[corner] = steps + 1);
-        work
+    let places = [[0, 0, 0], [256, 0, 0], [512, 0, 0], [1_024, 0, 0]];
+    let of = |name, wet: &[usize], ends, way: Option<&[u16]>, reached: &[u16]| {
+        let wet: Vec<[u16; 3]> = wet.iter().map(|&corner| places[corner]).collect();
+        let work = [reached, &[0; 42]].concat();
+        Known {
+            name,
+            survey: wet_at(&[0, 1], &wet, 1.0),
+            due: Due { ends, way: way.map(<[u16]>::to_vec), work },
+        }
     };
-    let of = |wet: &[[u16; 3]]| wet_at(&[0, 1], wet, 1.0);
-    let (first, middle, last) = ([0, 0, 0], [256, 0, 0], [512, 0, 0]);
-    let far = [1_024, 0, 0];
     vec![
-        Known {
-            name: "a divided edge is no joint",
-            survey: of(&[first, last, far]),
-            ends: [0, 2],
-            way: None,
-            work: work(&[(0, 0)]),
-        },
-        Known {
-            name: "the halves of a divided edge are joints",
-            survey: of(&[first, middle, last, far]),
-            ends: [0, 3],
-            way: Some(vec![0, 1, 2, 3]),
-            work: work(&[(0, 0), (1, 1), (2, 2), (3, 3)]),
-        },
-        // The cells around this edge are of one size, 512.
-        Known {
-            name: "an undivided edge beside divided ones",
-            survey: of(&[last, far]),
-            ends: [3, 2],
-            way: Some(vec![3, 2]),
-            work: work(&[(3, 0), (2, 1)]),
-        },
+        of("a divided edge is no joint", &[0, 2, 3], [0, 2], None, &[1, 0, 0, 0]),
+        of(
+            "the halves of a divided edge are joints",
+            &[0, 1, 2, 3],
+            [0, 3],
+            Some(&[0, 1, 2, 3]),
+            &[1, 2, 3, 4],
+        ),
+        of("an edge that cells of one size have", &[0, 2, 3], [3, 2], Some(&[3, 2]), &[0, 0, 2, 1]),
     ]
 }
 
@@ -237,7 +217,7 @@ pub fn several() -> Vec<Several> {
     let unsounded = || leaf(&[7]).amended([resounded(0, f32::NAN, 1)]);
     let stray = || unsounded().amended([Record { place: [1; 3], sounding: f32::NAN, day: 0 }]);
     let part = || Survey { amendments: vec![0; 11], ..unsounded() };
-    let one = || one_corner_wet();
+    let one = one_corner_wet;
     let beyond = [[0, 8], [8, 0], [8, 8], [0, 46], [65_536, 0], [0, 65_543], [u32::MAX, u32::MAX]];
     let mut list = vec![
         case(1, Survey { cells: vec![], ..one() }, [0, 8], [0, 0]),
@@ -269,15 +249,33 @@ mod tests {
     use std::collections::BTreeSet;
 
     use super::*;
+    use crate::joints::Joints;
     use crate::refusals::of_way;
+
+    /// What is said by hand is what all ways say, where few corners are wet.
+    #[test]
+    fn all_ways_say_the_same() {
+        let mut compared = 0;
+        for Known { name, survey, due } in known() {
+            let joints = Joints::read(&survey);
+            if joints.wet_count() > 8 {
+                continue;
+            }
+            let found = joints.due().into_iter().find(|other| other.ends == due.ends);
+            if let Some(Due { way, work, .. }) = found {
+                assert_eq!((way, work), (due.way, due.work), "{name}");
+                compared += 1;
+            }
+        }
+        assert!(compared > 20, "{compared} compared");
+    }
 
     #[test]
     fn the_plain_checks_say_the_same() {
         let mut met = BTreeSet::new();
-        for Known { name, survey, ends, way, work } in known() {
-            let refusal = if way.is_some() { 0 } else { NO_WAY };
-            let rooms = [work.len(); 2];
-            assert_eq!(of_way(&survey, ends.map(u32::from), rooms), refusal, "{name}");
+        for Known { name, survey, due } in known() {
+            let refusal = if due.way.is_some() { 0 } else { NO_WAY };
+            assert_eq!(of_way(&survey, due.ends.map(u32::from), [due.work.len(); 2]), refusal, "{name}");
             assert!(met.insert(name), "{name} is there twice");
         }
         for Several { survey, ends, rooms, refusal } in several() {

@@ -22,17 +22,3 @@ pub fn assert_same_slices<R: PartialEq + Debug>(one: &Slices<R>, other: &Slices<
     assert!(bits(&one.1) == bits(&other.1), "{what}: points");
     assert_eq!(one.2, other.2, "{what}: triangles");
 }
-
-/// How many small surveys there are.
-pub fn small() -> u64 {
-    how_many("CLEARANCE_SMALL", 5_000)
-}
-
-/// How many surveys of every size there are.
-pub fn large() -> u64 {
-    how_many("CLEARANCE_LARGE", 1_000)
-}
-
-fn how_many(variable: &str, otherwise: u64) -> u64 {
-    std::env::var(variable).map_or(otherwise, |text| text.parse().expect("a number"))
-}
