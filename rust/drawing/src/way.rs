@@ -16,6 +16,17 @@ pub struct Passage {
     pub corners: u32,
 }
 
+impl Passage {
+    /// How many elements of the way slice and of the work slice were written, in a survey of so many corners.
+    pub fn written(self, corners: usize) -> [usize; 2] {
+        match self.number {
+            0 => [self.corners as usize, corners],
+            20 => [0, corners],
+            _ => [0; 2],
+        }
+    }
+}
+
 /// A step that may be taken, from a wet corner to a wet one.
 type Joint = [usize; 2];
 

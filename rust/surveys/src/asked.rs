@@ -1,12 +1,16 @@
 //! Random questions about ways, and random surveys whose ways are long: document 02, "Can she get through?".
 
 use std::iter::repeat_with;
+use std::ops::Range;
 
 use crate::amendments::resounded;
-use crate::joints::Joints;
+use crate::generate::{named, small_survey};
+use crate::joints::{Due, Joints};
 use crate::plain::in_force;
 use crate::random::Random;
+use crate::refusals::NO_WAY;
 use crate::survey::Record;
+use crate::tally::Ways;
 use crate::trees::octree;
 use crate::Survey;
 
@@ -73,6 +77,27 @@ fn rooms(random: &mut Random, corners: usize) -> [usize; 2] {
     }
 }
 
+/// More wet corners than these have too many ways to look at all.
+const FEW_WET: usize = 11;
+
+/// Hands what is due of every two wet corners, and of a dry one, to a comparison, for each of these seeds that makes a survey with few wet corners. Stops
+/// if too few ways of any kind were met.
+pub fn compare_with_all_ways(seeds: Range<u64>, compare: impl Fn(&Survey, &Due, &str)) {
+    let mut seen = Ways::default();
+    for (what, survey) in named("small survey", seeds, |seed| small_survey(seed, (seed % 5) as usize)) {
+        let joints = Joints::read(&survey);
+        let all_due = if joints.wet_count() > FEW_WET { Vec::new() } else { joints.due() };
+        for due in all_due {
+            compare(&survey, &due, &what);
+            let number = if due.way.is_some() { 0 } else { NO_WAY };
+            seen.add(&joints, number, &due.way.unwrap_or_default(), &due.work);
+        }
+    }
+    let often = [("shown", 4), ("no way", 10)];
+    let less_often = [("of one corner", 20), ("with others as short", 20), ("from a dry start", 20)];
+    seen.assert_met(&[&often[..], &less_often].concat(), "all ways");
+}
+
 /// A random survey with a winding way, which is the only one between its ends in every second survey; in the others some more corners are wet. Gives
 /// the ends too.
 pub fn winding(seed: u64) -> (Survey, [u32; 2]) {
@@ -117,7 +142,7 @@ mod tests {
 
     use super::*;
     use crate::generate;
-    use crate::refusals::{of_way, NO_WAY, WAY_END, WAY_SLICE};
+    use crate::refusals::{of_way, WAY_END, WAY_SLICE};
 
     fn asked() -> impl Iterator<Item = (Survey, Asked)> {
         let surveys = (0..400).map(|seed| (seed, generate::small_mixed(seed, 8)));

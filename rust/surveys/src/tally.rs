@@ -1,11 +1,13 @@
 //! How many surveys of a comparison were drawn, and how many of these are amended: one in which nearly all are refused
-//! shows little. And how often calendars of each kind were met.
+//! shows little. And how often calendars of each kind, and ways of each kind, were met.
 
 use std::collections::BTreeMap;
 use std::fmt;
 
 use crate::amendments::some_hold;
 use crate::calendars::Kind;
+use crate::joints::Joints;
+use crate::refusals::{NO_WAY, WAY_END, WAY_SLICE};
 use crate::Survey;
 
 /// So few surveys need not show every outcome.
@@ -82,6 +84,43 @@ impl Kinds {
     }
 }
 
+/// A way of more corners than this is long.
+const LONG: usize = 20;
+
+/// How often ways, and refusals of ways, were met.
+#[derive(Clone, Debug, Default)]
+pub struct Ways(BTreeMap<&'static str, usize>);
+
+impl Ways {
+    /// Takes down what came of a question: the number returned, and what then stands in the front of the slices.
+    pub fn add(&mut self, joints: &Joints, number: u32, way: &[u16], work: &[u16]) {
+        let is_out_of_reach = || work[..joints.wet.len()].iter().all(|&steps| steps == 0);
+        let met = [
+            ("questions", true),
+            ("shown", number == 0),
+            ("of one corner", number == 0 && way.len() == 1),
+            ("long", number == 0 && way.len() > LONG),
+            ("with others as short", number == 0 && joints.is_tied(way, work)),
+            ("no way", number == NO_WAY),
+            ("from a dry start", number == NO_WAY && is_out_of_reach()),
+            ("no corner", number == WAY_END),
+            ("short slices", number == WAY_SLICE),
+        ];
+        for (what, is_met) in met {
+            *self.0.entry(what).or_default() += usize::from(is_met);
+        }
+    }
+
+    /// Says how often each was met, and stops if any of these was met in less than one of so many questions.
+    pub fn assert_met(&self, one_in: &[(&str, usize)], what: &str) {
+        println!("{what}: {:?}", self.0);
+        let questions = self.0.get("questions").copied().unwrap_or(0);
+        let is_rare = |&&(kind, one_in): &&(&str, usize)| self.0[kind] * one_in < questions;
+        let rare: Vec<_> = one_in.iter().filter(is_rare).collect();
+        assert!(questions < FEW || rare.is_empty(), "{what}: {:?}, and not one in {rare:?}", self.0);
+    }
+}
+
 #[cfg(test)]
 mod tests {
     use super::*;
@@ -106,6 +145,28 @@ mod tests {
         tally.add_drawn(&resounded::dried(), 0);
         tally.add_open();
         assert_eq!(tally.to_string(), "2 drawn (1 of them empty, 1 amended), 1 refused by 12");
+    }
+
+    /// A hundred questions about the one wet corner of a survey, so many of them about no corner.
+    fn asked(no_corner: usize) -> Ways {
+        let joints = Joints::read(&document::one_corner_wet());
+        let mut ways = Ways::default();
+        for question in 0..100 {
+            let number = if question < no_corner { WAY_END } else { 0 };
+            ways.add(&joints, number, &[0], &[1, 0, 0, 0, 0, 0, 0, 0]);
+        }
+        ways
+    }
+
+    #[test]
+    fn ways_that_were_met_often_enough_pass() {
+        asked(10).assert_met(&[("no corner", 10), ("shown", 2), ("of one corner", 2)], "test");
+    }
+
+    #[test]
+    #[should_panic(expected = "and not one in [(\"no corner\", 10)]")]
+    fn ways_that_were_met_too_seldom_are_named() {
+        asked(9).assert_met(&[("no corner", 10), ("shown", 2)], "test");
     }
 
     fn met(times: usize, but: Kind) -> Kinds {
