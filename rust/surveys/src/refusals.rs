@@ -68,13 +68,19 @@ pub fn of_drawing_by_calendar(survey: &Survey, calendar: &[u8], minute: u32) -> 
 
 /// The refusal of a way: those of [`ORDER`], then 18, 19 and 20; 0 if there is none. The rooms are how many elements the way slice and the work slice
 /// have.
-pub fn of_way(survey: &Survey, [start, end]: [u32; 2], rooms: [usize; 2]) -> u32 {
-    let corners = records(&survey.corners).count();
-    let is_corner = |number: u32| (number as usize) < corners;
-    match first(survey) {
-        0 if !is_corner(start) || !is_corner(end) => WAY_END,
-        0 if rooms[0] < corners || rooms[1] < corners => WAY_SLICE,
-        0 if !Joints::read(survey).reach(start as u16).contains(&(end as u16)) => NO_WAY,
+pub fn of_way(survey: &Survey, ends: [u32; 2], rooms: [usize; 2]) -> u32 {
+    let [start, end] = ends.map(|end| end as u16);
+    match of_question(first(survey), records(&survey.corners).count(), ends, rooms) {
+        0 if !Joints::read(survey).reach(start).contains(&end) => NO_WAY,
+        number => number,
+    }
+}
+
+/// The same without 20, of a survey with this first refusal and so many corners.
+pub fn of_question(first: u32, corners: usize, ends: [u32; 2], rooms: [usize; 2]) -> u32 {
+    match first {
+        0 if ends.iter().any(|&end| end as usize >= corners) => WAY_END,
+        0 if rooms.iter().any(|&room| room < corners) => WAY_SLICE,
         number => number,
     }
 }

@@ -9,6 +9,7 @@ mod stack;
 #[path = "../tables/mod.rs"]
 mod tables;
 mod trespass;
+mod ways;
 
 use std::collections::BTreeSet;
 use std::ops::{Deref, DerefMut};
@@ -217,6 +218,8 @@ struct Seen {
     points: usize,
     /// Enquiries that met a crossing edge.
     crossings: usize,
+    /// Ways that were shown.
+    ways: usize,
     /// The kinds of calendars that it was drawn by.
     kinds: [Kind; 2],
 }
@@ -233,6 +236,7 @@ fn look(survey: &Survey, lender: Lender, seed: u64, what: &str) -> Seen {
     let refusal = refusals::of_drawing(survey);
     let check = number(clearance::check(lent.tables()));
     assert_eq!(check, refusals::by_itself(refusal), "{what}: check");
+    let ways = lent.assert_ways(survey, refusal, seed);
     let points = match refusal {
         0 => lent.assert_drawn(),
         OPEN_AT_BOX => {
@@ -242,15 +246,15 @@ fn look(survey: &Survey, lender: Lender, seed: u64, what: &str) -> Seen {
         }
         _ => {
             lent.assert_refused(refusal);
-            return Seen { refusal, points: 0, crossings: 0, kinds };
+            return Seen { refusal, points: 0, crossings: 0, ways, kinds };
         }
     };
-    Seen { refusal, points: points.len() / 3, crossings: lent.assert_answered(&points), kinds }
+    Seen { refusal, points: points.len() / 3, crossings: lent.assert_answered(&points), ways, kinds }
 }
 
-/// Lawful surveys: by far most are drawn, the enquiry meets crossing edges, and calendars are of every kind.
+/// Lawful surveys: by far most are drawn, the enquiry meets crossing edges, ways are shown, and calendars are of every kind.
 fn assert_lawful_within(lender: Lender, surveys: u64) {
-    let (mut tally, mut kinds, mut crossings) = (Tally::default(), Kinds::default(), 0);
+    let (mut tally, mut kinds, mut crossings, mut ways) = (Tally::default(), Kinds::default(), 0, 0);
     for (seed, (what, survey)) in (0..).zip(generate::named("mixed", 0..surveys, generate::mixed)) {
         let seen = look(&survey, lender, seed, &what);
         match seen.refusal {
@@ -259,11 +263,13 @@ fn assert_lawful_within(lender: Lender, surveys: u64) {
             refusal => panic!("{what}: refusal {refusal}"),
         }
         crossings += seen.crossings;
+        ways += seen.ways;
         seen.kinds.into_iter().for_each(|kind| kinds.add(kind));
     }
     tally.assert_most_drawn(&format!("{lender:?}"));
     kinds.assert_all_met(surveys as usize / 50, &format!("{lender:?}"));
     assert!(crossings as u64 >= surveys / 10, "{crossings} crossing edges");
+    assert!(ways as u64 >= surveys / 4, "{ways} ways");
 }
 
 /// Examples and damaged surveys: they meet every refusal that the slices have no part in.

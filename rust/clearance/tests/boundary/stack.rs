@@ -5,6 +5,7 @@ use surveys::amendments::{self, with_amendments};
 use surveys::calendars::{of_records, Asked};
 use surveys::random::Random;
 use surveys::sized::{self, Kind};
+use surveys::survey::Record;
 use surveys::{plain, Survey};
 
 use crate::tables::proved;
@@ -36,7 +37,8 @@ fn largest() -> Vec<Survey> {
     kinds.into_iter().chain(most_triangles).collect()
 }
 
-/// Makes every call: the check, enquiries about edges of cells from all over the table, the drawing, by hand and by calendar, the volume.
+/// Makes every call: the check, enquiries about edges of cells from all over the table, the drawing, by hand and by calendar, the volume, and a way from
+/// the first corner to the last, which are dry, at a clearance at which all are wet too.
 fn make_calls(survey: &Survey) {
     let (tables, clearance) = (proved(survey), survey.clearance);
     clearance::check(tables).expect("checked");
@@ -49,6 +51,10 @@ fn make_calls(survey: &Survey) {
     assert_eq!(clearance::draw_by_calendar_to_vec(tables, &calendar, minute), Ok(mesh));
     assert_eq!(clearance::draw_by_calendar_to_vec(tables, &[], minute), Err(Refusal::Minute));
     clearance::volume_to_vec(tables, clearance, [1_024, 0, 512]).expect("reckoned");
+    let last = (survey.corners.len() / Record::BYTES) as u32 - 1;
+    assert_eq!(clearance::way_to_vec(tables, clearance, 0, last).expect("answered").way, None);
+    let through = clearance::way_to_vec(tables, -1_048_576.0, 0, last).expect("answered");
+    assert!(through.way.is_some_and(|way| way.len() > 6) && !through.steps.contains(&None));
 }
 
 #[test]

@@ -19,6 +19,19 @@ fn shortened(table: &[u8], side: Side) -> Guarded<u8> {
     Guarded::new(&table[..table.len() - 3], side).sealed()
 }
 
+/// Shows a way from the first of the 46 corners to the last, at a clearance at which all are wet, with slices of so many elements that are said to be of
+/// 46 each.
+///
+/// # Safety
+///
+/// Unsound on purpose, if there are fewer than 46 elements.
+unsafe fn way_with_more(tables: clearance::Survey, elements: [usize; 2]) -> u32 {
+    let lent = elements.map(|count| Guarded::new(&vec![0u16; count], Side::After));
+    let [way, work] = lent.each_ref().map(|slice| slice.first().cast_mut());
+    let [way, work] = [way, work].map(|first| unsafe { std::slice::from_raw_parts_mut(first, 46) });
+    number(clearance::way(tables, -2.0, 0, 45, way, work))
+}
+
 fn commit(trespass: &str) {
     if trespass == "use more stack" {
         return stack::use_more();
@@ -49,6 +62,8 @@ fn commit(trespass: &str) {
                 let whole = std::slice::from_raw_parts(calendar.first(), record.len());
                 number(clearance::draw_by_calendar_to_vec(tables, whole, 0))
             }
+            "lend more of a way slice than there is" => way_with_more(tables, [1, 46]),
+            "lend more of a work slice than there is" => way_with_more(tables, [46, 45]),
             _ => panic!("no such trespass"),
         };
     }
@@ -75,6 +90,8 @@ fn leaving_what_was_lent_ends_the_process() {
         "lend more corners than there are",
         "lend more amendments than there are",
         "lend more of a calendar than there is",
+        "lend more of a way slice than there is",
+        "lend more of a work slice than there is",
     ];
     for trespass in trespasses {
         assert_eq!(after_committing(trespass).signal(), Some(SIGSEGV), "{trespass}");
