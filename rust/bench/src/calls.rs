@@ -3,9 +3,9 @@
 use std::cell::RefCell;
 use std::hint::black_box;
 
+use crate::makers::{Maker, Proved, Rust};
 use crate::subject::Subject;
 use crate::timing::{in_turns, interleaved, ratio, Timing};
-use crate::ways::{Proved, Rust, Way};
 
 /// A call of the documents, on a survey without amendments but for one.
 #[derive(Clone, Copy, Debug)]
@@ -29,7 +29,7 @@ impl Call {
     pub const MORE_THAN_DRAW: [Call; 3] = [Call::Volume, Call::Amended, Call::Calendar];
 }
 
-/// Times a call both ways, in so many rounds.
+/// Times a call of both makers, in so many rounds.
 pub fn time(call: Call, subject: &mut Subject, rounds: usize) -> Timing {
     let shared = RefCell::new(subject);
     let proved = || make::<Proved>(call, &mut shared.borrow_mut());
@@ -48,22 +48,22 @@ pub fn by_draw(call: Call, subject: &mut Subject, rounds: usize) -> f64 {
 }
 
 /// Makes a call once. Enquiries are about one edge after another.
-pub fn make<W: Way>(call: Call, subject: &mut Subject) {
+pub fn make<M: Maker>(call: Call, subject: &mut Subject) {
     let Subject { survey, amended, asked, enquiries, point_slice, triangle_slice } = black_box(subject);
     match call {
-        Call::Check => _ = black_box(W::check(survey)),
+        Call::Check => _ = black_box(M::check(survey)),
         Call::Enquire => {
             enquiries.rotate_left(1);
-            _ = black_box(W::enquire(survey, enquiries[0]));
+            _ = black_box(M::enquire(survey, enquiries[0]));
         }
-        Call::Draw => _ = black_box(W::draw(survey, point_slice, triangle_slice)),
-        Call::Volume => _ = black_box(W::volume(survey, point_slice, triangle_slice)),
-        Call::Amended => _ = black_box(W::draw(amended, point_slice, triangle_slice)),
-        Call::Calendar => _ = black_box(W::draw_by_calendar(survey, asked, point_slice, triangle_slice)),
+        Call::Draw => _ = black_box(M::draw(survey, point_slice, triangle_slice)),
+        Call::Volume => _ = black_box(M::volume(survey, point_slice, triangle_slice)),
+        Call::Amended => _ = black_box(M::draw(amended, point_slice, triangle_slice)),
+        Call::Calendar => _ = black_box(M::draw_by_calendar(survey, asked, point_slice, triangle_slice)),
     }
 }
 
-/// Stops if the two ways differ in any answer, or a drawing with amendments or by calendar from one without: what is timed must be the same work.
+/// Stops if the two makers differ in any answer, or a drawing with amendments or by calendar from one without: what is timed must be the same work.
 pub fn compare(subject: &Subject) {
     let Subject { survey, amended, asked, enquiries, .. } = subject;
     assert_eq!(Proved::check(survey), Rust::check(survey));

@@ -3,9 +3,9 @@
 use surveys::sized::{survey, Kind};
 
 use crate::calls::{make, Call};
+use crate::makers::Proved;
 use crate::subject::Subject;
 use crate::timing::{in_turns, ratio};
-use crate::ways::Proved;
 use crate::{leaves, LARGE, SEED};
 
 /// A leaf's drawing may take this many times as long on the larger of the large surveys as on the smaller.

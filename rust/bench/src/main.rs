@@ -12,11 +12,11 @@
 
 mod calls;
 mod growth;
+mod makers;
 mod repeat;
 mod subject;
 mod table;
 mod timing;
-mod ways;
 
 use std::error::Error;
 use std::process::ExitCode;

@@ -6,7 +6,7 @@ use surveys::plain::octree;
 use surveys::random::Random;
 use surveys::Survey;
 
-use crate::ways::rust;
+use crate::makers::rust;
 use crate::SEED;
 
 /// How many edges are enquired about in turn.

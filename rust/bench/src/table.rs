@@ -55,8 +55,8 @@ pub fn print_growth(rows: &[Row], sizes: usize) {
     }
 }
 
-fn print_leaf_times(of_kind: &[Row], call: Call, way: &str, time: impl Fn(&Timing) -> f64) {
-    print!("{:9} {:8} {way:6}", kind_name(of_kind[0].kind), call_name(call));
+fn print_leaf_times(of_kind: &[Row], call: Call, maker: &str, time: impl Fn(&Timing) -> f64) {
+    print!("{:9} {:8} {maker:6}", kind_name(of_kind[0].kind), call_name(call));
     let mut before = None;
     for row in of_kind {
         let leaf_time = time(&row.times[call as usize]) / row.leaves as f64;

@@ -1,8 +1,8 @@
-//! Two ways to do the same, timed one after the other in many rounds.
+//! Two calls, timed one after the other in many rounds.
 
 use std::time::{Duration, Instant};
 
-/// A way is repeated until it takes this long, so that reading the clock costs nothing beside it.
+/// A call is repeated until it takes this long, so that reading the clock costs nothing beside it.
 const SHORTEST: Duration = Duration::from_micros(100);
 
 /// The medians over all rounds.
@@ -16,7 +16,7 @@ pub struct Timing {
     pub ratio: f64,
 }
 
-/// Times both ways, in so many rounds.
+/// Times both calls, in so many rounds.
 pub fn interleaved(rounds: usize, proved: impl FnMut(), rust: impl FnMut()) -> Timing {
     let seen = in_turns(rounds, proved, rust);
     Timing {
@@ -26,32 +26,32 @@ pub fn interleaved(rounds: usize, proved: impl FnMut(), rust: impl FnMut()) -> T
     }
 }
 
-/// The times of two ways in each round, in nanoseconds.
+/// The times of two calls in each round, in nanoseconds.
 pub fn in_turns(rounds: usize, mut first: impl FnMut(), mut second: impl FnMut()) -> Vec<[f64; 2]> {
     let repeats = [repeats(&mut first), repeats(&mut second)];
     (0..rounds).map(|_| [mean(repeats[0], &mut first), mean(repeats[1], &mut second)]).collect()
 }
 
-/// The median over all rounds of the first way by the second.
+/// The median over all rounds of the first call by the second.
 pub fn ratio(seen: &[[f64; 2]]) -> f64 {
     median(seen.iter().map(|times| times[0] / times[1]))
 }
 
-/// How often a way is repeated in a round; the way is warm then.
-fn repeats(way: &mut impl FnMut()) -> u32 {
+/// How often a call is repeated in a round; the call is warm then.
+fn repeats(call: &mut impl FnMut()) -> u32 {
     let start = Instant::now();
     let mut repeats = 0;
     while start.elapsed() < SHORTEST {
-        way();
+        call();
         repeats += 1;
     }
     repeats
 }
 
 /// The mean time of some repeats, in nanoseconds.
-fn mean(repeats: u32, way: &mut impl FnMut()) -> f64 {
+fn mean(repeats: u32, call: &mut impl FnMut()) -> f64 {
     let start = Instant::now();
-    (0..repeats).for_each(|_| way());
+    (0..repeats).for_each(|_| call());
     start.elapsed().as_nanos() as f64 / f64::from(repeats)
 }
 

@@ -16,7 +16,7 @@ pub type Counts = [u32; 3];
 pub type Answer = Result<Option<(u32, [f32; 3], bool)>, u32>;
 
 /// A maker of the documents' calls.
-pub trait Way {
+pub trait Maker {
     /// Checks a survey.
     fn check(survey: &Survey) -> u32;
     /// Enquires about an edge.
@@ -32,7 +32,7 @@ pub trait Way {
 /// The proved library.
 pub struct Proved;
 
-impl Way for Proved {
+impl Maker for Proved {
     fn check(survey: &Survey) -> u32 {
         clearance::check(proved(survey)).map_or_else(Refusal::number, |()| 0)
     }
@@ -80,7 +80,7 @@ fn refused_counts(Refused { refusal, counts }: Refused) -> Counts {
 /// The Rust drawing.
 pub struct Rust;
 
-impl Way for Rust {
+impl Maker for Rust {
     fn check(survey: &Survey) -> u32 {
         drawing::check(rust(survey))
     }
