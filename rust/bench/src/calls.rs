@@ -8,7 +8,7 @@ use crate::subject::Subject;
 use crate::timing::{in_turns, interleaved, ratio, Timing};
 
 /// A call of the documents, on a survey without amendments but for one.
-#[derive(Clone, Copy, Debug)]
+#[derive(Clone, Copy, Debug, PartialEq, Eq)]
 pub enum Call {
     Check,
     Enquire,
@@ -18,15 +18,17 @@ pub enum Call {
     Amended,
     /// A drawing by a calendar of 1,000 records.
     Calendar,
+    /// A way across the whole survey, at a clearance at which every corner is wet.
+    Way,
 }
 
 impl Call {
     /// All calls, in the order in which a row has them.
-    pub const ALL: [Call; 6] =
-        [Call::Check, Call::Enquire, Call::Draw, Call::Volume, Call::Amended, Call::Calendar];
+    pub const ALL: [Call; 7] =
+        [Call::Check, Call::Enquire, Call::Draw, Call::Volume, Call::Amended, Call::Calendar, Call::Way];
 
-    /// The calls that draw and do something more.
-    pub const MORE_THAN_DRAW: [Call; 3] = [Call::Volume, Call::Amended, Call::Calendar];
+    /// The calls that are timed against the drawing too: those that draw and do something more, and the way.
+    pub const BY_DRAW: [Call; 4] = [Call::Volume, Call::Amended, Call::Calendar, Call::Way];
 }
 
 /// Times a call of both makers, in so many rounds.
@@ -49,7 +51,8 @@ pub fn by_draw(call: Call, subject: &mut Subject, rounds: usize) -> f64 {
 
 /// Makes a call once. Enquiries are about one edge after another.
 pub fn make<M: Maker>(call: Call, subject: &mut Subject) {
-    let Subject { survey, amended, asked, enquiries, point_slice, triangle_slice } = black_box(subject);
+    let Subject { survey, amended, asked, enquiries, point_slice, triangle_slice, way_slice, work_slice } =
+        black_box(subject);
     match call {
         Call::Check => _ = black_box(M::check(survey)),
         Call::Enquire => {
@@ -60,6 +63,7 @@ pub fn make<M: Maker>(call: Call, subject: &mut Subject) {
         Call::Volume => _ = black_box(M::volume(survey, point_slice, triangle_slice)),
         Call::Amended => _ = black_box(M::draw(amended, point_slice, triangle_slice)),
         Call::Calendar => _ = black_box(M::draw_by_calendar(survey, asked, point_slice, triangle_slice)),
+        Call::Way => _ = black_box(M::way(survey, way_slice, work_slice)),
     }
 }
 
@@ -83,12 +87,31 @@ pub fn compare(subject: &Subject) {
     assert_eq!(written(subject, by_rust), drawn);
     let reckoned = written(subject, |points, triangles| Rust::volume(survey, points, triangles));
     assert_eq!(written(subject, |points, triangles| Proved::volume(survey, points, triangles)), reckoned);
+    compare_ways(subject);
 }
 
-/// What a call returns and leaves in the slices.
+/// Stops if the two makers differ in the way, or there is none: then it would not lead across the survey.
+fn compare_ways(subject: &Subject) {
+    let Subject { survey, way_slice, work_slice, .. } = subject;
+    let lengths = [way_slice, work_slice].map(Vec::len);
+    let shown = lent(lengths, |way, work| Rust::way(survey, way, work));
+    assert_eq!(lent(lengths, |way, work| Proved::way(survey, way, work)), shown);
+    let ([number, corners], ..) = shown;
+    assert_eq!(number, 0);
+    assert!(corners > 1, "{corners}");
+}
+
+/// What a call that draws returns and leaves in the slices.
 fn written<R>(subject: &Subject, call: impl FnOnce(&mut [f32], &mut [u32]) -> R) -> (R, Vec<f32>, Vec<u32>) {
-    let mut points = vec![0.0; subject.point_slice.len()];
-    let mut triangles = vec![0; subject.triangle_slice.len()];
-    let result = call(&mut points, &mut triangles);
-    (result, points, triangles)
+    lent([subject.point_slice.len(), subject.triangle_slice.len()], call)
+}
+
+/// What a call returns and leaves in slices of these lengths.
+fn lent<A: Clone + Default, B: Clone + Default, R>(
+    lengths: [usize; 2],
+    call: impl FnOnce(&mut [A], &mut [B]) -> R,
+) -> (R, Vec<A>, Vec<B>) {
+    let (mut first, mut second) = (vec![A::default(); lengths[0]], vec![B::default(); lengths[1]]);
+    let result = call(&mut first, &mut second);
+    (result, first, second)
 }

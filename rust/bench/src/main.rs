@@ -1,7 +1,8 @@
 //! Times the proved calls against the Rust drawing, on surveys of several kinds and sizes, and prints two tables:
-//! the time of each call, with the proved volume, the proved drawing with 1,000 amendments and that by a calendar of 1,000
-//! records by the proved drawing alone, and how the time of a leaf grows with the survey; then the highest of these ratios,
-//! and how the proved drawing of each kind grows. The exit status is 1 if one grows too fast.
+//! the time of each call, with the proved volume, the proved drawing with 1,000 amendments, that by a calendar of 1,000
+//! records and the proved way by the proved drawing alone, and how the time of a leaf grows with the survey; then the
+//! highest of these ratios, and how the proved drawing of each kind grows. The exit status is 1 if one grows too fast, or
+//! a way across a large survey takes too much of the drawing's time.
 //!
 //!     cargo run --release -p bench [ROUNDS]
 //!
@@ -12,6 +13,7 @@
 
 mod calls;
 mod growth;
+mod limit;
 mod makers;
 mod repeat;
 mod subject;
@@ -54,7 +56,7 @@ fn time_all(rounds: usize) -> ExitCode {
     table::print_worst(&rows, &SIZES);
     let growths = Kind::ALL.map(|kind| Growth::timed(kind, rounds));
     table::print_drawing_growth(&growths);
-    ExitCode::from(u8::from(growths.iter().any(Growth::is_too_fast)))
+    ExitCode::from(u8::from(limit::is_too_slow(&rows) || growths.iter().any(Growth::is_too_fast)))
 }
 
 /// How many leaves a survey of so many splits has.
@@ -66,7 +68,7 @@ fn row(kind: Kind, splits: usize, rounds: usize) -> Row {
     let mut subject = Subject::new(surveys::sized::survey(kind, splits, SEED));
     calls::compare(&subject);
     let times = Call::ALL.map(|call| calls::time(call, &mut subject, rounds));
-    let by_draw = Call::MORE_THAN_DRAW.map(|call| calls::by_draw(call, &mut subject, rounds));
+    let by_draw = Call::BY_DRAW.map(|call| calls::by_draw(call, &mut subject, rounds));
     Row {
         kind,
         splits,

@@ -9,8 +9,14 @@ use crate::subject::Enquiry;
 /// The point from which volumes are reckoned.
 const REFERENCE: [u32; 3] = [512; 3];
 
+/// The lowest clearance that is lawful. Every corner that is sounded above it is wet, so that a way leads anywhere.
+const LOWEST: f32 = -1_048_576.0;
+
 /// What drawing returns: the number, and the counts of points and triangles.
 pub type Counts = [u32; 3];
+
+/// What a call that shows a way returns: the number, and the count of corners.
+pub type Shown = [u32; 2];
 
 /// The answer of an enquiry: a refusal's number, or the point of an odd edge and whether its upper end is wet.
 pub type Answer = Result<Option<(u32, [f32; 3], bool)>, u32>;
@@ -27,6 +33,8 @@ pub trait Maker {
     fn draw_by_calendar(survey: &Survey, asked: &Asked, points: &mut [f32], triangles: &mut [u32]) -> Counts;
     /// Draws into lent slices, and reckons six times the volume.
     fn volume(survey: &Survey, points: &mut [f32], triangles: &mut [u32]) -> (Counts, i128);
+    /// Shows in lent slices, which have an element for each corner, the way from the first corner to the last at the lowest clearance.
+    fn way(survey: &Survey, way: &mut [u16], work: &mut [u16]) -> Shown;
 }
 
 /// The proved library.
@@ -62,6 +70,19 @@ impl Maker for Proved {
             Err(refused) => (refused_counts(refused), 0),
         }
     }
+
+    fn way(survey: &Survey, way: &mut [u16], work: &mut [u16]) -> Shown {
+        match clearance::way(proved(survey), LOWEST, 0, last_corner(work), way, work) {
+            Ok(Some(corners)) => [0, corners as u32],
+            Ok(None) => [Refusal::NoWay.number(), 0],
+            Err(refusal) => [refusal.number(), 0],
+        }
+    }
+}
+
+/// The record number of the last corner.
+fn last_corner(work: &[u16]) -> u32 {
+    work.len() as u32 - 1
 }
 
 /// The tables of a survey for the proved library.
@@ -106,6 +127,11 @@ impl Maker for Rust {
     fn volume(survey: &Survey, points: &mut [f32], triangles: &mut [u32]) -> (Counts, i128) {
         let water = drawing::volume(rust(survey), survey.clearance, REFERENCE, points, triangles);
         (drawn_counts(water.drawn), water.sixfold)
+    }
+
+    fn way(survey: &Survey, way: &mut [u16], work: &mut [u16]) -> Shown {
+        let passage = drawing::way(rust(survey), LOWEST, 0, last_corner(work), way, work);
+        [passage.number, passage.corners]
     }
 }
 

@@ -1,8 +1,8 @@
-//! A survey to time calls on, with the slices lent to drawing and the edges to enquire about.
+//! A survey to time calls on, with the slices lent to calls and the edges to enquire about.
 
 use surveys::amendments::{self, with_amendments};
 use surveys::calendars::{of_records, Asked};
-use surveys::plain::octree;
+use surveys::plain::{octree, records};
 use surveys::random::Random;
 use surveys::Survey;
 
@@ -36,13 +36,16 @@ pub struct Subject {
     pub enquiries: Vec<Enquiry>,
     pub point_slice: Vec<f32>,
     pub triangle_slice: Vec<u32>,
+    pub way_slice: Vec<u16>,
+    pub work_slice: Vec<u16>,
 }
 
 impl Subject {
-    /// A survey that is drawn, with slices that its drawing just fills.
+    /// A survey that is drawn, with slices that its drawing just fills, and those that a way needs.
     pub fn new(survey: Survey) -> Subject {
         let drawn = drawing::draw_to_vec(rust(&survey), survey.clearance);
         let drawing::Drawing { points, triangles } = drawn.expect("a survey that is drawn");
+        let corners = records(&survey.corners).count();
         Subject {
             enquiries: enquiries(&survey),
             amended: with_amendments(&mut Random::new(SEED), &survey, amendments::MOST),
@@ -50,6 +53,8 @@ impl Subject {
             survey,
             point_slice: vec![0.0; points.len()],
             triangle_slice: vec![0; triangles.len()],
+            way_slice: vec![0; corners],
+            work_slice: vec![0; corners],
         }
     }
 

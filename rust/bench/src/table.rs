@@ -5,7 +5,7 @@ use surveys::sized::Kind;
 use crate::calls::Call;
 use crate::growth::Growth;
 use crate::timing::Timing;
-use crate::{growth, LARGE};
+use crate::{growth, limit, LARGE};
 
 /// What was seen of one survey.
 pub struct Row {
@@ -16,8 +16,16 @@ pub struct Row {
     pub triangles: usize,
     /// The times of each call.
     pub times: [Timing; Call::ALL.len()],
-    /// Each proved call that draws and does something more, by the proved drawing alone.
-    pub by_draw: [f64; Call::MORE_THAN_DRAW.len()],
+    /// The proved calls of [`Call::BY_DRAW`], by the proved drawing alone.
+    pub by_draw: [f64; Call::BY_DRAW.len()],
+}
+
+impl Row {
+    /// A proved call of [`Call::BY_DRAW`], by the proved drawing alone.
+    pub fn part_of_draw(&self, call: Call) -> f64 {
+        let number = Call::BY_DRAW.into_iter().position(|known| known == call);
+        self.by_draw[number.expect("a call that is timed against the drawing")]
+    }
 }
 
 /// The time of each call in microseconds, proved and Rust, and their ratio; then those of proved calls to the proved drawing.
@@ -27,7 +35,7 @@ pub fn print_times(rows: &[Row]) {
     );
     print!("{:9} {:>6} {:>6} {:>6} {:>9}", "kind", "splits", "leaves", "points", "triangles");
     Call::ALL.into_iter().for_each(|call| print!(" | {:>26}", call_name(call)));
-    Call::MORE_THAN_DRAW.into_iter().for_each(|call| print!(" | {:>8} / draw", call_name(call)));
+    Call::BY_DRAW.into_iter().for_each(|call| print!(" | {:>8} / draw", call_name(call)));
     println!();
     for row in rows {
         print!("{:9} {:6} {:6}", kind_name(row.kind), row.splits, row.leaves);
@@ -69,14 +77,17 @@ fn print_leaf_times(of_kind: &[Row], call: Call, maker: &str, time: impl Fn(&Tim
     println!();
 }
 
-/// The highest ratio of each call, and of proved calls to the proved drawing, on large surveys and on those of all sizes.
+/// The highest ratio of each call, and of proved calls to the proved drawing, on large surveys and on those of all sizes; and whether a way is too slow.
 pub fn print_worst(rows: &[Row], sizes: &[usize]) {
     println!();
     for call in Call::ALL {
         print_highest(rows, sizes, call_name(call), "proved / Rust", |row| row.times[call as usize].ratio);
     }
-    for (number, call) in Call::MORE_THAN_DRAW.into_iter().enumerate() {
-        print_highest(rows, sizes, call_name(call), "proved / proved draw", |row| row.by_draw[number]);
+    for call in Call::BY_DRAW {
+        print_highest(rows, sizes, call_name(call), "proved / proved draw", |row| row.part_of_draw(call));
+    }
+    if limit::is_too_slow(rows) {
+        println!("FAILED: a way takes more than {} of the drawing", limit::MOST);
     }
 }
 
@@ -89,7 +100,7 @@ fn print_highest(rows: &[Row], sizes: &[usize], call: &str, what: &str, ratio: i
 }
 
 /// The highest ratio over the rows of these sizes.
-fn highest(rows: &[Row], sizes: &[usize], ratio: impl Fn(&Row) -> f64) -> f64 {
+pub fn highest(rows: &[Row], sizes: &[usize], ratio: impl Fn(&Row) -> f64) -> f64 {
     rows.iter().filter(|row| sizes.contains(&row.splits)).map(ratio).fold(0.0, f64::max)
 }
 
@@ -125,6 +136,7 @@ pub fn call_name(call: Call) -> &'static str {
         Call::Volume => "volume",
         Call::Amended => "amended",
         Call::Calendar => "calendar",
+        Call::Way => "way",
     }
 }
 
@@ -135,7 +147,7 @@ mod tests {
     /// A row in which every call has the ratio, and twice that by the drawing.
     fn row(kind: Kind, splits: usize, ratio: f64) -> Row {
         let times = Call::ALL.map(|_| Timing { proved: ratio, rust: 1.0, ratio });
-        let by_draw = Call::MORE_THAN_DRAW.map(|_| 2.0 * ratio);
+        let by_draw = Call::BY_DRAW.map(|_| 2.0 * ratio);
         Row { kind, splits, leaves: 1, points: 0, triangles: 0, times, by_draw }
     }
 
@@ -151,7 +163,9 @@ mod tests {
             for call in Call::ALL {
                 assert_eq!(highest(&rows, sizes, |row| row.times[call as usize].ratio), expected);
             }
-            assert_eq!(highest(&rows, sizes, |row| row.by_draw[0]), 2.0 * expected);
+            for call in Call::BY_DRAW {
+                assert_eq!(highest(&rows, sizes, |row| row.part_of_draw(call)), 2.0 * expected);
+            }
         }
     }
 }
