@@ -8,6 +8,8 @@ use std::str::FromStr;
 use clap::error::{ContextKind, ContextValue, Error, ErrorKind};
 use clap::{Arg, ArgAction, ArgMatches};
 
+use crate::way::Corner;
+
 /// A path or a name, in any letters.
 pub fn path(name: &'static str) -> Arg {
     Arg::new(name).required(true).value_parser(clap::value_parser!(OsString))
@@ -26,6 +28,11 @@ pub fn axis(name: &'static str) -> Arg {
         "z" => Ok(2),
         _ => fitting::<u32>(text),
     })
+}
+
+/// A corner by its record number or its place.
+pub fn corner(name: &'static str) -> Arg {
+    number(name).value_parser(Corner::from_str)
 }
 
 /// An option with a number of degrees.

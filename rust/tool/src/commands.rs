@@ -11,7 +11,7 @@ use clearance::{Edge, Mesh, Water};
 use surveys::plain::Plain;
 use surveys::Survey;
 
-use crate::arguments::{axis, count, degrees, flag, number, path, place, taken, taken_place, words};
+use crate::arguments::{axis, corner, count, degrees, flag, number, path, place, taken, taken_place, words};
 use crate::calendar;
 use crate::convert;
 use crate::drawing::{
@@ -22,9 +22,11 @@ use crate::facts;
 use crate::failure::{refused, Failure};
 use crate::files::{self, Reading};
 use crate::formats;
+use crate::json::{self, Answer, JSON};
 use crate::picture::{self, Scene, Style};
 use crate::svg;
 use crate::view::Vector;
+use crate::way::{self, Corner};
 
 /// What a command prints on standard output, and its exit status.
 struct Printed {
@@ -90,7 +92,7 @@ macro_rules! mesh_help {
     };
 }
 
-const COMMANDS: [Command; 11] = [
+const COMMANDS: [Command; 12] = [
     Command {
         name: "check",
         arguments: "DIR",
@@ -163,6 +165,32 @@ const COMMANDS: [Command; 11] = [
         ),
         takes: || directory_and_clearance().into_iter().chain([place(REFERENCE)]).collect(),
         run: volume,
+    },
+    Command {
+        name: "way",
+        arguments: "DIR START END [--clearance N] [--json]",
+        summary: "show a way over wet corners",
+        help: concat!(
+            "Shows a way for the hull's keel point from the corner START to the corner END, each given by its record number, from 0, or by its\n\
+             place x,y,z: over wet corners joined by edges that are not divided, with the fewest steps. Of equally short ways it is the one\n\
+             with the lowest record number at the first place where they differ. Prints a line for each corner of the way, then how many\n\
+             steps it has and how long it is in units, the sum of the lengths of its edges. In the example weir-pool it goes over the\n\
+             drowned crest, and at a clearance of 32 there is none:\n\n\
+             \x20   clearance example weir-pool pool\n\
+             \x20   clearance way pool 256,512,512 768,512,256\n\
+             \x20   clearance way pool 256,512,512 768,512,256 --clearance 32\n\n\
+             If START or END is no corner, that is refused by 18. If there is no way, that is refused by 20, with whether START or END is\n\
+             dry, and how many corners can be reached from START. A pool that runs out of the surveyed box serves as any other. A missing\n\
+             file of cells, corners or clearance is an error.\n\
+             --json         print one object: start, end, clearance, steps, length and corners, each with its record and its place; for a\n\
+             \x20              refusal its number, refused, and its words, which stand on standard error too",
+            clearance_help!()
+        ),
+        takes: || {
+            let ends = way::ENDS.map(corner);
+            directory_and_clearance().into_iter().chain(ends).chain([flag(JSON)]).collect()
+        },
+        run: way,
     },
     Command {
         name: "obj",
@@ -299,7 +327,7 @@ fn overview() -> String {
          DIR is a directory with the files cells, corners and clearance (four bytes, a little-endian binary32), and amendments if\n\
          corners were sounded again; without this file there are none. Of several records for a corner that of the highest day holds.\n\
          A corner is wet if its sounding is greater than the clearance; ground exactly at the clearance is dry.\n\
-         A survey with a wet corner on an outer face of the box is not drawn; 'check' and 'enquire' still take it.\n\
+         A survey with a wet corner on an outer face of the box is not drawn; 'check', 'enquire' and 'way' still take it.\n\
          Every command that needs a clearance takes --clearance N in place of the file; where clearances change over the year, 'draw',\n\
          'obj', 'ply' and 'render' take a calendar and a minute. A file clearance that holds a number as text is an error.\n\
          'clearance COMMAND --help' says more of a command, 'clearance --version' the version of the tool and of the library's calls.\n\
@@ -355,6 +383,26 @@ fn volume(arguments: &ArgMatches) -> Result<Printed, Failure> {
     let survey = drawing::survey(arguments)?;
     let Water { sixfold, .. } = facts::water(&survey, taken_place(arguments, REFERENCE))?;
     Ok(format!("volume   {}\nsixfold  {sixfold}\n", facts::cubic_units(sixfold)).into())
+}
+
+fn way(arguments: &ArgMatches) -> Result<Printed, Failure> {
+    let ends = way::ENDS.map(|name| *taken::<Corner>(arguments, name));
+    answered(arguments, way::find(&drawing::survey(arguments)?, ends))
+}
+
+/// What a command found, in words or, with `--json`, as an object. A refusal is an object too then, beside its words on standard error.
+fn answered(arguments: &ArgMatches, found: Result<impl Answer, Failure>) -> Result<Printed, Failure> {
+    match found {
+        Ok(answer) if arguments.get_flag(JSON) => Ok(json::line(&answer.object()).into()),
+        Ok(answer) => Ok(answer.to_string().into()),
+        Err(Failure::Refused { refusal, words }) if arguments.get_flag(JSON) => {
+            let text = json::line(&json::refusal(refusal, &words));
+            let failure = Failure::Refused { refusal, words };
+            eprintln!("clearance: {failure}");
+            Ok(Printed { text, status: failure.exit_status() })
+        }
+        Err(failure) => Err(failure),
+    }
 }
 
 fn mesh(arguments: &ArgMatches, format: fn(&Mesh) -> String) -> Result<Printed, Failure> {

@@ -24,17 +24,27 @@ pub enum Failure {
         /// What is wrong with it.
         words: String,
     },
-    /// The library refused the survey, the clearance, the calendar, the minute, the edge or the reference point.
-    Refused(Refusal),
+    /// The library refused the survey, the clearance, the calendar, the minute, the edge, the reference point or the way.
+    Refused {
+        /// The refusal.
+        refusal: Refusal,
+        /// Its words, and what more there is to say of it.
+        words: String,
+    },
 }
 
 impl Failure {
     /// 1 for a refusal, 2 for the rest.
     pub fn exit_status(&self) -> u8 {
         match self {
-            Failure::Refused(_) => 1,
+            Failure::Refused { .. } => 1,
             Failure::Usage(_) | Failure::File { .. } | Failure::Unfit { .. } => 2,
         }
+    }
+
+    /// A refusal with the reason for it.
+    pub fn refused_for(refusal: Refusal, reason: &str) -> Failure {
+        Failure::Refused { refusal, words: format!("{refusal}: {reason}") }
     }
 
     /// What the system said of a file, for `map_err`.
@@ -45,7 +55,7 @@ impl Failure {
 
 impl From<Refusal> for Failure {
     fn from(refusal: Refusal) -> Failure {
-        Failure::Refused(refusal)
+        Failure::Refused { refusal, words: refusal.to_string() }
     }
 }
 
@@ -55,7 +65,7 @@ impl fmt::Display for Failure {
             Failure::Usage(words) => out.write_str(words),
             Failure::File { path, error } => write!(out, "{}: {error}", path.display()),
             Failure::Unfit { path, words } => write!(out, "{} {words}", path.display()),
-            Failure::Refused(refusal) => out.write_str(&refused(*refusal)),
+            Failure::Refused { refusal, words } => write!(out, "refused {}: {words}", refusal.number()),
         }
     }
 }
