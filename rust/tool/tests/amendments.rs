@@ -9,12 +9,13 @@ use surveys::document;
 use surveys::survey::without_days;
 
 /// The commands that read the survey in a directory, with what else they take, but for `render`, which makes a file.
-fn commands(directory: &str) -> [Vec<&str>; 7] {
+fn commands(directory: &str) -> [Vec<&str>; 8] {
     [
         vec!["check", directory],
         vec!["draw", directory],
         vec!["info", directory],
         vec!["volume", directory],
+        vec!["way", directory, "31", "31"],
         vec!["obj", directory],
         vec!["ply", directory],
         vec!["enquire", directory, "x", "0", "512", "512", "256"],
@@ -37,6 +38,8 @@ fn amendments_are_read_by_every_command() {
     assert!(printed(&["volume", &directory]).starts_with("volume   2359296.000\n"));
     assert!(printed(&["obj", &directory]).starts_with("v 64 512 512\n"));
     assert!(printed(&["ply", &directory]).contains("end_header\n64 512 512\n"));
+    let way = ["way", &directory, "31", "31", "--clearance", "2"];
+    assert_eq!(printed(&way), "corner 31 at 256,512,512\n0 steps, 0 units long\n");
     let pictures = ["with.svg", "without.svg"].map(|name| place.below(name));
     assert_eq!(printed(&["render", &directory, &pictures[0]]), "");
     fs::remove_file(amendments).expect("the file is there");
@@ -44,6 +47,7 @@ fn amendments_are_read_by_every_command() {
     let [with, without] = pictures.map(|picture| fs::read(picture).expect("a picture"));
     assert!(with != without);
     assert_eq!(printed(&edge), "crossing 0 128 512 512 upper end wet\n");
+    assert!(run(&way).errors.starts_with("clearance: refused 20: "));
 }
 
 #[test]

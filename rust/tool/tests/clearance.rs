@@ -7,12 +7,13 @@ use std::fs;
 use common::{all_printed, printed, run, Place, Ran};
 
 /// The commands that need a clearance, with these options; the last makes a picture.
-fn commands<'a>(directory: &'a str, picture: &'a str, options: &[&'a str]) -> [Vec<&'a str>; 7] {
+fn commands<'a>(directory: &'a str, picture: &'a str, options: &[&'a str]) -> [Vec<&'a str>; 8] {
     [
         vec!["draw", directory],
         vec!["enquire", directory, "x", "256", "512", "512", "256"],
         vec!["info", directory],
         vec!["volume", directory],
+        vec!["way", directory, "31", "31"],
         vec!["obj", directory],
         vec!["ply", directory],
         vec!["render", directory, picture],

@@ -6,8 +6,10 @@ use common::{drawn, printed, root, run, survey, text, Place};
 use surveys::{damage, document, generate};
 
 /// All commands.
-const COMMANDS: [&str; 11] =
-    ["check", "draw", "enquire", "info", "volume", "obj", "ply", "render", "calendar", "convert", "example"];
+const COMMANDS: [&str; 12] = [
+    "check", "draw", "enquire", "info", "volume", "way", "obj", "ply", "render", "calendar", "convert",
+    "example",
+];
 
 fn twin() -> String {
     text(&root().join("examples/twin")).to_owned()
@@ -77,10 +79,11 @@ fn a_missing_file_counts_as_empty_for_draw_only() {
     assert_eq!(run(&["draw", &place.below("nowhere")]).out, "refused 1\n");
     let picture = place.below("picture.png");
     let edge = ["enquire", &directory, "x", "0", "0", "0", "512"];
-    let others: [&[&str]; 7] = [
+    let others: [&[&str]; 8] = [
         &["check", &directory],
         &["info", &directory],
         &["volume", &directory],
+        &["way", &directory, "0", "0"],
         &["obj", &directory],
         &["ply", &directory],
         &["render", &directory, &picture],
@@ -256,7 +259,7 @@ fn version_is_that_of_the_tool_and_of_the_calls() {
 fn wrong_command_lines_are_named() {
     let place = Place::new("wrong");
     let picture = place.below("picture.gif");
-    let cases: [(&[&str], &str); 21] = [
+    let cases: [(&[&str], &str); 26] = [
         (&[], "a command is missing"),
         (&["sound"], "unknown command sound"),
         (&["help", "sound"], "unknown command sound"),
@@ -270,6 +273,14 @@ fn wrong_command_lines_are_named() {
             &["volume", "one", "--reference", "0", "0", "4294967296"],
             "--reference: 4294967296 is no number that fits",
         ),
+        (&["way", "one", "2"], "END is missing"),
+        (&["way", "one", "2", "-1"], "END: -1 is no record number and no place x,y,z that fits"),
+        (&["way", "one", "1,2", "3"], "START: 1,2 is no record number and no place x,y,z that fits"),
+        (
+            &["way", "one", "1,2,3", "1,2,4294967296"],
+            "END: 1,2,4294967296 is no record number and no place x,y,z that fits",
+        ),
+        (&["volume", "one", "--json"], "unknown option --json"),
         (&["draw", "one", "--calendar", "two"], "--minute is missing"),
         (&["volume", "one", "--clearance", "deep"], "--clearance: deep is no number that fits"),
         (&["check", "one", "--clearance", "1"], "unknown option --clearance"),
