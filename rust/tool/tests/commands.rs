@@ -2,7 +2,7 @@
 
 mod common;
 
-use common::{drawn, printed, root, run, survey, text, Place};
+use common::{drawn, printed, root, run, survey, text, twin, Place};
 use surveys::{damage, document, generate};
 
 /// All commands.
@@ -10,10 +10,6 @@ const COMMANDS: [&str; 12] = [
     "check", "draw", "enquire", "info", "volume", "way", "obj", "ply", "render", "calendar", "convert",
     "example",
 ];
-
-fn twin() -> String {
-    text(&root().join("examples/twin")).to_owned()
-}
 
 #[test]
 fn check_says_lawful_or_why_not() {

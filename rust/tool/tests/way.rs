@@ -6,14 +6,10 @@ use std::fs;
 
 use clearance::Passage;
 use clearance_tool::files::{self, tables};
-use common::{printed, root, run, survey, text, Place, Ran};
+use common::{printed, run, survey, twin, Place, Ran};
 use serde_json::{json, Value};
 use surveys::plain::records;
 use surveys::{damage, document, generate, Survey};
-
-fn twin() -> String {
-    text(&root().join("examples/twin")).to_owned()
-}
 
 fn places(survey: &Survey) -> Vec<[u16; 3]> {
     records(&survey.corners).map(|record| record.place).collect()

@@ -47,6 +47,11 @@ pub fn root() -> PathBuf {
     Path::new(env!("CARGO_MANIFEST_DIR")).join("../..")
 }
 
+/// The directory of the twin survey, as an argument.
+pub fn twin() -> String {
+    text(&root().join("examples/twin")).to_owned()
+}
+
 /// A path as an argument.
 pub fn text(path: &Path) -> &str {
     path.to_str().expect("a path of plain letters")
