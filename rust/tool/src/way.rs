@@ -43,11 +43,11 @@ impl FromStr for Corner {
 impl Corner {
     /// Its record number; one that no table has if there is no corner at its place.
     fn record(self, places: &[[u16; 3]]) -> u32 {
-        let is_at = |place: [u32; 3]| move |corner: &[u16; 3]| corner.map(u32::from) == place;
         match self {
             Corner::Record(record) => record,
             Corner::Place(place) => {
-                places.iter().position(is_at(place)).map_or(NO_RECORD, |record| record as u32)
+                let found = places.iter().position(|corner| corner.map(u32::from) == place);
+                found.map_or(NO_RECORD, |record| record as u32)
             }
         }
     }
