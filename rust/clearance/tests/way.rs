@@ -77,13 +77,10 @@ fn look(seen: &mut Ways, survey: &Survey, seed: u64, what: &str) {
     }
 }
 
-fn assert_due(survey: &Survey, Due { ends, way, work }: &Due, what: &str) {
-    let corners = way.as_ref().map_or(0, Vec::len);
-    let (result, shown, steps) = assert_in_vectors(survey, ends.map(u32::from), 0, what);
-    let number = if way.is_some() { 0 } else { NO_WAY };
-    assert_eq!(result, Passage { number, corners: corners as u32 }, "{what}, {ends:?}");
-    assert_eq!(&shown[..corners], way.as_deref().unwrap_or_default(), "{what}, {ends:?}: way");
-    assert_eq!(&steps, work, "{what}, {ends:?}: work");
+fn assert_due(survey: &Survey, due: &Due, what: &str) {
+    let (Passage { number, corners }, way, work) =
+        assert_in_vectors(survey, due.ends.map(u32::from), 0, what);
+    due.assert_given([number, corners], &way, &work, what);
 }
 
 #[test]

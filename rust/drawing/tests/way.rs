@@ -8,7 +8,7 @@ use surveys::asked::{compare_with_all_ways, questions, Asked};
 use surveys::generate::{self, named};
 use surveys::joints::Due;
 use surveys::lent::{lend_for_way, WaySlices};
-use surveys::refusals::{of_way, NO_WAY};
+use surveys::refusals::of_way;
 use surveys::survey::Record;
 use surveys::ways::{known, several, Known, Several};
 use surveys::{damage, Survey};
@@ -23,13 +23,10 @@ fn asked(survey: &Survey, Asked { ends, rooms }: Asked, what: &str) -> WaySlices
     })
 }
 
-fn assert_due(survey: &Survey, Due { ends, way, work }: &Due, what: &str) {
-    let rooms = [work.len(); 2];
-    let (Passage { number, corners }, shown, steps) =
-        asked(survey, Asked { ends: ends.map(u32::from), rooms }, what);
-    assert_eq!(number, if way.is_some() { 0 } else { NO_WAY }, "{what}, {ends:?}");
-    assert_eq!(&shown[..corners as usize], way.as_deref().unwrap_or_default(), "{what}, {ends:?}: way");
-    assert_eq!(&steps, work, "{what}, {ends:?}: work");
+fn assert_due(survey: &Survey, due: &Due, what: &str) {
+    let question = Asked { ends: due.ends.map(u32::from), rooms: [due.work.len(); 2] };
+    let (Passage { number, corners }, way, work) = asked(survey, question, what);
+    due.assert_given([number, corners], &way, &work, what);
 }
 
 #[test]

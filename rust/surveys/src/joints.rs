@@ -4,6 +4,7 @@
 use std::collections::{BTreeSet, HashMap};
 
 use crate::plain::{records, Plain};
+use crate::refusals::NO_WAY;
 use crate::Survey;
 
 /// What is due of a question about two corners.
@@ -15,6 +16,17 @@ pub struct Due {
     pub way: Option<Vec<u16>>,
     /// For each corner its fewest steps from the start plus one, or 0 if it is out of reach.
     pub work: Vec<u16>,
+}
+
+impl Due {
+    /// Stops unless a call gave this number and this count of corners, and left this in slices that are just long enough.
+    pub fn assert_given(&self, [number, corners]: [u32; 2], way: &[u16], work: &[u16], what: &str) {
+        let [start, end] = self.ends;
+        let what = &format!("{what}, from {start} to {end}");
+        assert_eq!(number, if self.way.is_some() { 0 } else { NO_WAY }, "{what}");
+        assert_eq!(&way[..corners as usize], self.way.as_deref().unwrap_or_default(), "{what}: way");
+        assert_eq!(work, self.work, "{what}: work");
+    }
 }
 
 /// The corners of a survey and the undivided edges between them.

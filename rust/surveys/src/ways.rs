@@ -3,7 +3,7 @@
 use crate::document::{level, one_corner_wet, wet_at};
 use crate::joints::Due;
 use crate::refusals::{AMENDMENT_PLACE, AMENDMENT_TABLE, NO_WAY, WAY_END, WAY_SLICE};
-use crate::survey::{Octree, Record};
+use crate::survey::{Octree, Record, BOX_SIZE};
 use crate::Survey;
 
 /// A survey asked about a way.
@@ -16,185 +16,122 @@ pub struct Known {
     pub due: Due,
 }
 
-/// One leaf, in which these corners are wet. Corner n is in place n: of the upper half of x, y and z by its bits.
-fn leaf(wet: &[u16]) -> Survey {
-    let mut numbers = 0..;
-    Survey::new(&Octree::splitting(&[]), |_| sounding(wet.contains(&numbers.next().expect("eight corners"))))
+/// Numbers below 10, as they are written here: of corners, or of steps plus one.
+fn digits(text: &str) -> Vec<u16> {
+    text.chars().map(|digit| digit.to_digit(10).expect("a digit") as u16).collect()
 }
 
-fn sounding(wet: bool) -> f32 {
-    if wet {
-        1.0
-    } else {
-        -1.0
-    }
+/// One leaf, in which these corners are wet. Corner n is in place n: at the upper ends of x, y and z by the bits of n.
+fn leaf(wet: &str) -> Survey {
+    let places: Vec<[u16; 3]> = digits(wet).into_iter().map(place).collect();
+    wet_at(&[], &places, 1.0)
 }
 
-/// One split with all corners wet. Corner n is at n % 3, n / 3 % 3 and n / 9 on x, y and z, in halves of the box.
-fn grid() -> Survey {
-    Survey::new(&Octree::splitting(&[0]), |_| 1.0)
+/// Where a corner of one leaf is.
+fn place(corner: u16) -> [u16; 3] {
+    [0, 1, 2].map(|axis| BOX_SIZE * (corner >> axis & 1))
 }
 
-/// For each corner of the grid how far it is from this one, plus one: a step on one axis each.
-fn grid_work(start: u16) -> Vec<u16> {
-    let at = |corner: u16| [corner % 3, corner / 3 % 3, corner / 9];
-    let steps =
-        |corner: u16| at(start).iter().zip(at(corner)).map(|(from, to)| from.abs_diff(to)).sum::<u16>();
-    (0..27).map(|corner| steps(corner) + 1).collect()
+/// One leaf as [`leaf`] has it, with corners sounded again: each with its sounding and its day.
+fn resounded(wet: &str, amendments: &[(u16, f32, u16)]) -> Survey {
+    let record = |&(corner, sounding, day): &(u16, f32, u16)| Record { place: place(corner), sounding, day };
+    leaf(wet).amended(amendments.iter().map(record))
 }
 
-/// An amendment to a corner of one leaf.
-fn resounded(corner: u16, sounding: f32, day: u16) -> Record {
-    Record { place: [0, 1, 2].map(|axis| 1_024 * (corner >> axis & 1)), sounding, day }
+/// A survey and its answer: the start and the end, the way (empty if there is none), and the work of the first corners; the others are out of reach.
+fn known_as(name: &'static str, survey: Survey, ends: &str, way: &str, work: &str) -> Known {
+    let way = Some(digits(way)).filter(|way| !way.is_empty());
+    let mut work = digits(work);
+    work.resize(survey.corners.len() / Record::BYTES, 0);
+    let ends = digits(ends).try_into().expect("a start and an end");
+    Known { name, survey, due: Due { ends, way, work } }
 }
 
-const ALL: [u16; 8] = [0, 1, 2, 3, 4, 5, 6, 7];
-
-/// From a corner of one leaf in which all are wet.
-const FROM_0: [u16; 8] = [1, 2, 2, 3, 2, 3, 3, 4];
+/// All corners of one leaf.
+const ALL: &str = "01234567";
 
 /// All of them.
 pub fn known() -> Vec<Known> {
-    let mut list: Vec<Known> = [leaves(), resoundings()].concat().into_iter().map(Known::from).collect();
-    list.extend(grids());
-    list.extend(divided_edges());
-    list
-}
-
-/// A name, a survey of one leaf, the ends, the way (empty if there is none) and the work.
-type Listed = (&'static str, Survey, [u16; 2], &'static [u16], [u16; 8]);
-
-impl From<Listed> for Known {
-    fn from((name, survey, ends, way, work): Listed) -> Known {
-        let way = Some(way.to_vec()).filter(|way| !way.is_empty());
-        Known { name, survey, due: Due { ends, way, work: work.to_vec() } }
-    }
+    [leaves(), just_above_and_awash(), resoundings(), grids(), divided_edges()]
+        .into_iter()
+        .flatten()
+        .collect()
 }
 
 /// One leaf with some corners wet. All of them lie on outer faces, so that none of these is drawn.
-fn leaves() -> Vec<Listed> {
-    let two_ways = || leaf(&[1, 3, 4, 5, 6, 7]);
+fn leaves() -> Vec<Known> {
+    let known = |name, wet, ends, way, work| known_as(name, leaf(wet), ends, way, work);
     vec![
-        ("across one leaf", leaf(&ALL), [0, 7], &[0, 1, 3, 7], FROM_0),
-        ("along one edge", leaf(&ALL), [0, 4], &[0, 4], FROM_0),
-        ("around a dry corner", leaf(&[0, 2, 3, 4, 5, 6, 7]), [0, 3], &[0, 2, 3], [1, 0, 2, 3, 2, 3, 3, 4]),
-        (
-            "around two dry corners",
-            leaf(&[0, 3, 4, 5, 6, 7]),
-            [0, 3],
-            &[0, 4, 5, 7, 3],
-            [1, 0, 0, 5, 2, 3, 3, 4],
-        ),
-        // Of 1 3 7 6, 1 5 4 6 and 1 5 7 6 the first; back, of 6 4 5 1, 6 7 3 1 and 6 7 5 1, not the same corners.
-        ("there", two_ways(), [1, 6], &[1, 3, 7, 6], [0, 1, 0, 2, 3, 2, 4, 3]),
-        ("and back", two_ways(), [6, 1], &[6, 4, 5, 1], [0, 4, 0, 3, 2, 3, 1, 2]),
-        ("a wet corner to itself", leaf(&ALL), [0, 0], &[0], FROM_0),
-        ("the one wet corner to itself", leaf(&[5]), [5, 5], &[5], [0, 0, 0, 0, 0, 1, 0, 0]),
-        ("a dry corner to itself", leaf(&[0, 1, 2, 4]), [7, 7], &[], [0; 8]),
-        ("a dry start", leaf(&[1, 2, 3]), [0, 3], &[], [0; 8]),
-        ("a dry end", leaf(&[0, 1, 3]), [0, 7], &[], [1, 2, 0, 3, 0, 0, 0, 0]),
-        ("two corners that no edge joins", leaf(&[0, 3, 5, 6]), [0, 3], &[], [1, 0, 0, 0, 0, 0, 0, 0]),
-        ("two pools", leaf(&[0, 1, 6, 7]), [1, 6], &[], [2, 1, 0, 0, 0, 0, 0, 0]),
-        (
-            "awash at a zero of the other sign",
-            leaf(&ALL).amended([resounded(1, -0.0, 1)]),
-            [0, 3],
-            &[0, 2, 3],
-            [1, 0, 2, 3, 2, 3, 3, 4],
-        ),
-        ("awash everywhere", leaf(&ALL).at(1.0), [0, 3], &[], [0; 8]),
-        (
-            "the least sounding above the clearance",
-            leaf(&ALL).at(1.0f32.next_down()),
-            [0, 7],
-            &[0, 1, 3, 7],
-            FROM_0,
-        ),
+        known("across one leaf", ALL, "07", "0137", "12232334"),
+        known("along one edge", ALL, "04", "04", "12232334"),
+        known("around a dry corner", "0234567", "03", "023", "10232334"),
+        known("around two dry corners", "034567", "03", "04573", "10052334"),
+        // Of 1376, 1546 and 1576 the first; back, of 6451, 6731 and 6751, other corners.
+        known("there", "134567", "16", "1376", "01023243"),
+        known("and back", "134567", "61", "6451", "04032312"),
+        known("a wet corner to itself", ALL, "00", "0", "12232334"),
+        known("the one wet corner to itself", "5", "55", "5", "00000100"),
+        known("a dry corner to itself", "0124", "77", "", ""),
+        known("a dry start", "123", "03", "", ""),
+        known("a dry end", "013", "07", "", "1203"),
+        known("two corners that no edge joins", "0356", "03", "", "1"),
+        known("two pools", "0167", "16", "", "21"),
     ]
 }
 
-/// One leaf with a corner sounded again.
-fn resoundings() -> Vec<Listed> {
-    let shut = |amendments: &[Record]| leaf(&[0, 1, 3]).amended(amendments.iter().copied());
-    let open = |amendments: &[Record]| leaf(&[0, 3]).amended(amendments.iter().copied());
+/// One leaf with soundings at the clearance or next to it.
+fn just_above_and_awash() -> Vec<Known> {
+    let barely = leaf(ALL).at(1.0f32.next_down());
     vec![
-        ("shut by a resounding", shut(&[resounded(1, -1.0, 1)]), [0, 3], &[], [1, 0, 0, 0, 0, 0, 0, 0]),
-        (
-            "opened by a resounding",
-            open(&[resounded(1, 1.0, 0)]),
-            [0, 3],
-            &[0, 1, 3],
-            [1, 2, 0, 3, 0, 0, 0, 0],
-        ),
-        (
-            "opened elsewhere",
-            shut(&[resounded(1, -1.0, 1), resounded(2, 1.0, 1)]),
-            [0, 3],
-            &[0, 2, 3],
-            [1, 0, 2, 3, 0, 0, 0, 0],
-        ),
-        (
-            "opened by the later of one day",
-            open(&[resounded(1, -1.0, 2), resounded(1, 1.0, 2)]),
-            [3, 0],
-            &[3, 1, 0],
-            [3, 2, 0, 1, 0, 0, 0, 0],
-        ),
-        (
-            "not opened by the older",
-            open(&[resounded(1, -1.0, 2), resounded(1, 1.0, 1)]),
-            [3, 0],
-            &[],
-            [0, 0, 0, 1, 0, 0, 0, 0],
-        ),
-        (
-            "a start that was dredged",
-            leaf(&[1]).amended([resounded(0, 1.0, 9)]),
-            [0, 1],
-            &[0, 1],
-            [1, 2, 0, 0, 0, 0, 0, 0],
-        ),
+        known_as("every sounding just above the clearance", barely, "07", "0137", "12232334"),
+        known_as("awash everywhere", leaf(ALL).at(1.0), "03", "", ""),
+        known_as("around a corner awash", resounded(ALL, &[(1, -0.0, 1)]), "03", "023", "10232334"),
     ]
 }
 
-/// One split, all wet: 0 to 8 at the bottom, 26 at the top of it all.
+/// One leaf with corners sounded again.
+fn resoundings() -> Vec<Known> {
+    let known = |name, wet, amendments: &[_], ends, way, work| {
+        known_as(name, resounded(wet, amendments), ends, way, work)
+    };
+    vec![
+        known("shut", "013", &[(1, -1.0, 1)], "03", "", "1"),
+        known("opened", "03", &[(1, 1.0, 0)], "03", "013", "1203"),
+        known("opened elsewhere", "013", &[(1, -1.0, 1), (2, 1.0, 1)], "03", "023", "1023"),
+        known("opened by the later of one day", "03", &[(1, -1.0, 2), (1, 1.0, 2)], "30", "310", "3201"),
+        known("not opened by the older", "03", &[(1, -1.0, 2), (1, 1.0, 1)], "30", "", "0001"),
+        known("a start that was dredged", "1", &[(0, 1.0, 9)], "01", "01", "12"),
+    ]
+}
+
+/// One split, all wet. Corner n is at n % 3, n / 3 % 3 and n / 9 on x, y and z, in halves of the box. It takes a step on one axis for each half.
 fn grids() -> Vec<Known> {
-    let shown = |name, ends: [u16; 2], way: &[u16]| Known {
-        name,
-        survey: grid(),
-        due: Due { ends, way: Some(way.to_vec()), work: grid_work(ends[0]) },
+    let at = |corner: u16| [corner % 3, corner / 3 % 3, corner / 9];
+    let known = |name, ends: [u16; 2], way: &[u16]| {
+        let steps = |corner| (0..3).map(|axis| at(ends[0])[axis].abs_diff(at(corner)[axis])).sum::<u16>();
+        let work = (0..27).map(|corner| steps(corner) + 1).collect();
+        let survey = Survey::new(&Octree::splitting(&[0]), |_| 1.0);
+        Known { name, survey, due: Due { ends, way: Some(way.to_vec()), work } }
     };
     vec![
-        shown("through the whole box", [0, 26], &[0, 1, 2, 5, 8, 17, 26]),
-        shown("back through the whole box", [26, 0], &[26, 17, 8, 5, 2, 1, 0]),
-        shown("across the middle", [4, 22], &[4, 13, 22]),
-        shown("from side to side", [18, 8], &[18, 9, 0, 1, 2, 5, 8]),
+        known("through the whole box", [0, 26], &[0, 1, 2, 5, 8, 17, 26]),
+        known("back through the whole box", [26, 0], &[26, 17, 8, 5, 2, 1, 0]),
+        known("across the middle", [4, 22], &[4, 13, 22]),
+        known("from side to side", [18, 8], &[18, 9, 0, 1, 2, 5, 8]),
     ]
 }
 
-/// The cells of the twin survey, of 46 corners: the edge from (0, 0, 0), record 0, to (512, 0, 0), record 2, is divided at (256, 0, 0), record 1; the one
-/// from there to (1024, 0, 0), record 3, is not.
+/// The cells of the twin survey: the edge from (0, 0, 0), record 0, to (512, 0, 0), record 2, is divided at (256, 0, 0), record 1; the one from there to
+/// (1024, 0, 0), record 3, is not.
 fn divided_edges() -> Vec<Known> {
-    let places = [[0, 0, 0], [256, 0, 0], [512, 0, 0], [1_024, 0, 0]];
-    let of = |name, wet: &[usize], ends, way: Option<&[u16]>, reached: &[u16]| {
-        let wet: Vec<[u16; 3]> = wet.iter().map(|&corner| places[corner]).collect();
-        let work = [reached, &[0; 42]].concat();
-        Known {
-            name,
-            survey: wet_at(&[0, 1], &wet, 1.0),
-            due: Due { ends, way: way.map(<[u16]>::to_vec), work },
-        }
+    let known = |name, wet: &[u16], ends, way, work| {
+        let wet: Vec<[u16; 3]> = wet.iter().map(|&x| [x, 0, 0]).collect();
+        known_as(name, wet_at(&[0, 1], &wet, 1.0), ends, way, work)
     };
     vec![
-        of("a divided edge is no joint", &[0, 2, 3], [0, 2], None, &[1, 0, 0, 0]),
-        of(
-            "the halves of a divided edge are joints",
-            &[0, 1, 2, 3],
-            [0, 3],
-            Some(&[0, 1, 2, 3]),
-            &[1, 2, 3, 4],
-        ),
-        of("an edge that cells of one size have", &[0, 2, 3], [3, 2], Some(&[3, 2]), &[0, 0, 2, 1]),
+        known("a divided edge is no joint", &[0, 512, 1_024], "02", "", "1"),
+        known("the halves of a divided edge are joints", &[0, 256, 512, 1_024], "03", "0123", "1234"),
+        known("an edge that cells of one size have", &[0, 512, 1_024], "32", "32", "0021"),
     ]
 }
 
@@ -214,7 +151,7 @@ pub struct Several {
 /// case is a way, in a pool that runs out of the box.
 pub fn several() -> Vec<Several> {
     let case = |refusal, survey, ends, rooms| Several { survey, ends, rooms, refusal };
-    let unsounded = || leaf(&[7]).amended([resounded(0, f32::NAN, 1)]);
+    let unsounded = || resounded("7", &[(0, f32::NAN, 1)]);
     let stray = || unsounded().amended([Record { place: [1; 3], sounding: f32::NAN, day: 0 }]);
     let part = || Survey { amendments: vec![0; 11], ..unsounded() };
     let one = one_corner_wet;
@@ -226,7 +163,7 @@ pub fn several() -> Vec<Several> {
         case(AMENDMENT_PLACE, stray().at(f32::NAN), [0, 8], [0, 0]),
         case(7, unsounded().at(f32::NAN), [0, 8], [0, 0]),
         case(8, one().at(f32::NAN), [0, 8], [0, 0]),
-        case(8, leaf(&ALL).at(-1_048_577.0), [0, 7], [8, 8]),
+        case(8, leaf(ALL).at(-1_048_577.0), [0, 7], [8, 8]),
     ];
     for ends in beyond {
         list.extend([[0, 0], [7, 8], [8, 8]].map(|rooms| case(WAY_END, one(), ends, rooms)));
