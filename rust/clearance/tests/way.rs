@@ -6,13 +6,15 @@
 mod how_many;
 mod tables;
 
+use std::collections::BTreeMap;
+
 use clearance::Refusal;
 use drawing::Passage;
 use how_many::{large, small};
 use surveys::asked::{compare_with_all_ways, questions, winding, Asked};
 use surveys::joints::{Due, Joints};
 use surveys::lent::{lend_for_way, WaySlices};
-use surveys::refusals::{of_way, NO_WAY};
+use surveys::refusals::{of_way, NO_WAY, ORDER};
 use surveys::sized::{self, Kind};
 use surveys::survey::Record;
 use surveys::tally::Ways;
@@ -167,13 +169,17 @@ fn winding_ways() {
 
 #[test]
 fn damaged_surveys_touch_nothing() {
+    let mut met: BTreeMap<u32, u64> = ORDER.map(|refusal| (refusal, 0)).into();
     for seed in 0..small() {
         let damage::Damaged { survey, refusal } = damage::damaged(seed);
+        met.entry(refusal).and_modify(|count| *count += 1);
         for asked in questions(seed, &survey, 2) {
             let (refused, ..) = assert_same(&survey, asked, seed, &format!("damaged, seed {seed}"));
             assert_eq!(refused.number, refusal, "damaged, seed {seed}");
         }
     }
+    println!("damaged, by refusal: {met:?}");
+    assert!(small() < 1_000 || met.values().all(|&count| count > small() / 50), "by refusal: {met:?}");
 }
 
 #[test]
