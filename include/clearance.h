@@ -3,9 +3,9 @@
  *
  * A survey is a cell table (an octree), a corner table (a sounding at every corner of every cell) and amendments to that (corners sounded again). At a
  * clearance, given by hand or by a calendar and a minute, the surface between wet and dry corners is drawn as points on the octree's edges and triangles
- * between them; the space inside is reckoned; and from corner to corner the shortest way over wet ones is shown. The calls are those of document 01, the
- * scope document, with what the requests of document 02 add and change; what they return, and what they write, is proved equal to the documents' rules for
- * every input.
+ * between them; the space inside is reckoned; and from corner to corner the way of fewest steps over wet ones is shown. The calls are those of document 01,
+ * the scope document, with what the requests of document 02 add and change; what they return, and what they write, is proved equal to the documents' rules
+ * for every input.
  *
  * BUILDING
  *
@@ -72,7 +72,8 @@
  *   - A slice of 0 elements may have any pointer, NULL too: it is not followed.
  *   - Nobody else writes to a slice while the call runs.
  *
- * No bytes in the tables and no clearance, not a number among them, can make a call read or write outside what it was lent, or run on without end.
+ * No bytes in the tables and no number handed in, a clearance that is not a number and a record number that no corner has among them, can make a call
+ * read or write outside what it was lent, or run on without end.
  *
  * A call allocates nothing and keeps nothing, so any number of threads may call at once. It needs less than 576 KiB of stack. Arithmetic is that of the
  * thread: it must be as a C program starts, rounding to nearest and with subnormal numbers kept, or what is drawn may differ. (GCC's -ffast-math, given
@@ -297,7 +298,7 @@ struct clearance_passage {
  * are untouched, and so is all of `way` with 20. That is returned only if there is no way; there is none where the start or the end is dry.
  *
  * Both slices must have as many elements as the corner table has records, corners_length / CLEARANCE_CORNER_BYTES, however short the way is (19). So a
- * slice at NULL, which has 0 elements, is refused.
+ * slice at NULL, which has 0 elements, is refused. A start or end that is not below this count is refused too (18), whatever its low 16 bits are.
  */
 struct clearance_passage clearance_way(const uint8_t *cells, size_t cells_length, const uint8_t *corners, size_t corners_length,
     const uint8_t *amendments, size_t amendments_length, float clearance, uint32_t start, uint32_t end, uint16_t *way, size_t way_length, uint16_t *work,

@@ -4,7 +4,7 @@ use crate::calls::Call;
 use crate::table::{highest, Row};
 use crate::LARGE;
 
-/// The most that a proved way may take of the time of the proved drawing, on a large survey: request 8's limit. A way reads and checks the survey and
+/// The most that a proved way may take of the time of the proved drawing, on a large survey. The limit is our own; no document sets one. A way reads and checks the survey and
 /// finds its edges as a drawing does, but has no points to place and no loops to follow.
 pub const MOST: f64 = 0.7;
 

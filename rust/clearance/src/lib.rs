@@ -2,7 +2,7 @@
 //!
 //! A [survey](Survey) is a cell table (an octree), a corner table (a sounding at every corner of every cell) and amendments to that, all as bytes. At a
 //! clearance, given by hand or by a calendar and a minute, the surface between wet and dry corners is drawn as points on the octree's edges and triangles
-//! between them; and from corner to corner the shortest [way] over wet ones is shown. The calls are those of document 01, with what the requests of document
+//! between them; and from corner to corner the [way] of fewest steps over wet ones is shown. The calls are those of document 01, with what the requests of document
 //! 02 add and change; what they return, and what they write, is proved equal to the documents' rules for every input. What can't be drawn or shown is refused
 //! by one of the twenty [refusals](Refusal). What is drawn is closed: between any two points triangles run one way as often as the other. So the space inside
 //! is one number, wherever it is reckoned from.
@@ -384,8 +384,8 @@ pub fn volume_to_vec(survey: Survey, clearance: f32, reference: [u32; 3]) -> Res
 }
 
 /// Shows a way from corner to corner, both given by record number: corners joined by edges that are not divided, each wet in the survey as amended, with
-/// the fewest steps. Of equally short ways it is the one with the lowest corner at the first place where they differ. A wet corner has a way of one corner
-/// to itself. A pool that runs out of the surveyed box ([`Refusal::OpenAtBox`]) serves as any other.
+/// the fewest steps. Of equally short ways it is the one with the lowest record number at the first place where they differ. A wet corner has a way of
+/// one corner to itself. A pool that runs out of the surveyed box ([`Refusal::OpenAtBox`]) serves as any other.
 ///
 /// `Ok(Some(count))`: the first `count` elements of `way` are the way's corners, from the start to the end. `Ok(None)`: there is no way, and `way` is
 /// untouched. With both, `work` holds for each corner its fewest steps from the start plus one, or 0 if it is out of reach; all are 0 if the start is dry.

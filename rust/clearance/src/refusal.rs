@@ -45,7 +45,7 @@ pub enum Refusal {
     /// No cell has the edge that was asked about.
     NoEdge = 11,
     /// The pool runs out of the surveyed box: a corner on an outer face is wet. Only drawing and the volume refuse it; such a survey still passes its
-    /// check and serves the enquiry.
+    /// check, and serves the enquiry and ways.
     OpenAtBox = 12,
     /// A coordinate of the volume's reference point is above 1,024.
     Reference = 13,

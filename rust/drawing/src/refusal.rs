@@ -40,11 +40,11 @@ pub(crate) enum Refusal {
     Calendar = 16,
     /// The minute is in no record of the calendar.
     Minute = 17,
-    /// The start or the end of a way is no corner.
+    /// The start or the end is no corner.
     WayEnd = 18,
     /// The way slice or the work slice is shorter than the corner count.
     WaySlice = 19,
-    /// No way leads from the start to the end.
+    /// No way over wet corners leads from the start to the end.
     NoWay = 20,
 }
 

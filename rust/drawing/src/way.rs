@@ -28,7 +28,7 @@ impl Passage {
 }
 
 /// A step that may be taken, from a wet corner to a wet one.
-type Joint = [usize; 2];
+type Step = [usize; 2];
 
 /// For each corner the fewest steps from the start; none if it is out of reach.
 type Steps = Vec<Option<u16>>;
@@ -59,7 +59,7 @@ pub(crate) fn show(
 }
 
 /// Both directions of every undivided edge whose ends are wet.
-fn joints(survey: &Lawful, clearance: f32) -> Vec<Joint> {
+fn joints(survey: &Lawful, clearance: f32) -> Vec<Step> {
     let trees = EdgeTrees::over(survey);
     let undivided = (0..trees.len()).map(|edge| trees[edge]).filter(|edge| edge.halves.is_none());
     let is_wet = |&corner: &usize| survey.corners[corner].is_wet(clearance);
@@ -68,7 +68,7 @@ fn joints(survey: &Lawful, clearance: f32) -> Vec<Joint> {
 }
 
 /// Takes a step, if its end is reached so at all, or in fewer steps than before.
-fn brings_down(steps: &mut Steps, &[from, to]: &Joint) -> bool {
+fn brings_down(steps: &mut Steps, &[from, to]: &Step) -> bool {
     let Some(over) = steps[from].map(|steps| steps + 1) else { return false };
     let is_fewer = steps[to].is_none_or(|before| over < before);
     if is_fewer {
@@ -79,12 +79,12 @@ fn brings_down(steps: &mut Steps, &[from, to]: &Joint) -> bool {
 
 /// To each corner in reach, of the ways with the fewest steps that which compares lowest as a list. Such a way is one to a corner a step nearer, and a
 /// step more; those are all known when their turn comes, since steps rise.
-fn least_ways(joints: &[Joint], steps: &Steps) -> Vec<Option<Vec<u16>>> {
+fn least_ways(joints: &[Step], steps: &Steps) -> Vec<Option<Vec<u16>>> {
     let is_start = |corner: usize| steps[corner] == Some(0);
     let mut ways: Vec<_> =
         (0..steps.len()).map(|corner| is_start(corner).then(|| vec![corner as u16])).collect();
-    let leads_on = |[from, to]: &&Joint| steps[*from].is_some_and(|before| steps[*to] == Some(before + 1));
-    let mut onward: Vec<&Joint> = joints.iter().filter(leads_on).collect();
+    let leads_on = |[from, to]: &&Step| steps[*from].is_some_and(|before| steps[*to] == Some(before + 1));
+    let mut onward: Vec<&Step> = joints.iter().filter(leads_on).collect();
     onward.sort_by_key(|[_, to]| steps[*to]);
     for &[from, to] in onward {
         let nearer = ways[from].iter().flatten().copied();

@@ -166,6 +166,13 @@ pub fn full() -> Survey {
     Survey::new(&Octree::new(|record, _| record < 256), |_| -1.0)
 }
 
+/// Cells along a diagonal of the box, which meet in corners alone: 256 splits, and 4,872 corners, the most there may be.
+pub fn most_corners() -> Survey {
+    let is_split =
+        |_, Cube { low: [x, y, z], size }: Cube| x == y && y == z && (size > 4 || size == 4 && x == 0);
+    Survey::new(&Octree::new(is_split), |_| -1.0)
+}
+
 /// One leaf with this sounding at (0,0,0).
 pub fn sounded(sounding: f32) -> Survey {
     wet_at(&[], &[[0, 0, 0]], sounding)

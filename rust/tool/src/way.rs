@@ -74,6 +74,11 @@ impl Way {
     }
 }
 
+/// A count of things in words.
+fn counted(count: usize, thing: &str) -> String {
+    format!("{count} {thing}{}", if count == 1 { "" } else { "s" })
+}
+
 /// The length of the edge between two places.
 fn distance(one: [u16; 3], other: [u16; 3]) -> u32 {
     one.into_iter().zip(other).map(|(one, other)| u32::from(one.abs_diff(other))).sum()
@@ -84,8 +89,7 @@ impl fmt::Display for Way {
         for (record, place) in &self.corners {
             writeln!(out, "corner {record} at {}", spelled(place.map(u32::from)))?;
         }
-        let steps = self.steps();
-        writeln!(out, "{steps} step{}, {} units long", if steps == 1 { "" } else { "s" }, self.length())
+        writeln!(out, "{}, {} long", counted(self.steps(), "step"), counted(self.length() as usize, "unit"))
     }
 }
 
@@ -150,7 +154,7 @@ fn no_way(survey: &Survey, numbers: [u32; 2], steps: &[Option<u16>]) -> Result<S
         (true, true) => "the start and the end are dry",
         (true, false) => "the start is dry",
         (false, true) => "the end is dry",
-        (false, false) => "both are wet, but not joined",
+        (false, false) => "both are wet, but the end is out of reach",
     };
     let reached = steps.iter().flatten().count();
     let itself = if reached > 0 { ", the start included" } else { "" };

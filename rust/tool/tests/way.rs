@@ -49,8 +49,10 @@ fn step_lengths(places: &[[u16; 3]], way: &[u16]) -> Vec<u32> {
 fn words(places: &[[u16; 3]], way: &[u16]) -> String {
     let line = |&record: &u16| format!("corner {record} at {}\n", spelled(places[usize::from(record)]));
     let lengths = step_lengths(places, way);
+    let length: u32 = lengths.iter().sum();
     let steps = if lengths.len() == 1 { "step" } else { "steps" };
-    let last = format!("{} {steps}, {} units long\n", lengths.len(), lengths.iter().sum::<u32>());
+    let units = if length == 1 { "unit" } else { "units" };
+    let last = format!("{} {steps}, {length} {units} long\n", lengths.len());
     way.iter().map(line).chain([last]).collect()
 }
 
@@ -102,6 +104,9 @@ fn a_way_is_measured_in_steps_and_units() {
     let one_step = "corner 32 at 512,512,512\ncorner 31 at 256,512,512\n1 step, 256 units long\n";
     assert_eq!(printed(&["way", &twin(), "32", "31", "--clearance", "-2"]), one_step);
     assert_eq!(printed(&["way", &twin(), "31", "31"]), "corner 31 at 256,512,512\n0 steps, 0 units long\n");
+    let place = Place::new("unit-way");
+    let shortest = "corner 0 at 0,0,0\ncorner 1 at 1,0,0\n1 step, 1 unit long\n";
+    assert_eq!(printed(&["way", &place.example("deepest"), "0", "1", "--clearance", "-2"]), shortest);
 }
 
 #[test]
@@ -194,7 +199,7 @@ fn why_there_is_no_way_is_said() {
     let cases = [
         (
             [wet[0], wet[1]],
-            "both are wet, but not joined; from the start 1 of 46 corners can be reached, the start included",
+            "both are wet, but the end is out of reach; from the start 1 of 46 corners can be reached, the start included",
         ),
         ([wet[0], "0"], "the end is dry; from the start 1 of 46 corners can be reached, the start included"),
         (["0", wet[1]], "the start is dry; from the start 0 of 46 corners can be reached"),

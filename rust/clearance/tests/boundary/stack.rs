@@ -6,7 +6,7 @@ use surveys::calendars::{of_records, Asked};
 use surveys::random::Random;
 use surveys::sized::{self, Kind};
 use surveys::survey::Record;
-use surveys::{plain, Survey};
+use surveys::{document, plain, Survey};
 
 use crate::tables::proved;
 
@@ -34,7 +34,7 @@ fn largest() -> Vec<Survey> {
     let most_triangles = random
         .max_by_key(|survey| clearance::count(proved(survey), survey.clearance).expect("counted").triangles);
     let kinds = Kind::ALL.map(|kind| sized::survey(kind, MOST_SPLITS, 0));
-    kinds.into_iter().chain(most_triangles).collect()
+    kinds.into_iter().chain(most_triangles).chain([document::most_corners()]).collect()
 }
 
 /// Makes every call: the check, enquiries about edges of cells from all over the table, the drawing, by hand and by calendar, the volume, and a way from
