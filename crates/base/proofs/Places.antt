@@ -1,5 +1,5 @@
 -- Places: facts for any axis.
-use Prim.Native.Nat.{ℕ, _+_, _≤_}
+use Prim.Native.Nat.{ℕ, _+_, _-_, _≤_}
 use mathlib.Core.Path.{_≡_, refl, sym, ap, _∙_}
 use mathlib.Core.Logic.{_⊎_, inl, inr}
 use mathlib.Core.List.{List}
@@ -7,7 +7,7 @@ use mathlib.Core.Bool.{_&&_}
 use native.Mathlib.Omega.{arith}
 use lib.Dec.{T, eqb, eqb→eq, eqb-refl}
 use Rattle.base.specs.Lists.{collect}
-use Rattle.base.specs.Grid.{Place, Axis, X, Y, Z, axes, next, along, put, move, same, pair, axisNumber}
+use Rattle.base.specs.Grid.{Place, Axis, X, Y, Z, axes, next, along, put, move, back, same, pair, axisNumber}
 use Rattle.base.proofs.Tests.{and→, →and}
 use Rattle.base.proofs.Lists.{In}
 use Rattle.base.proofs.Sums.{times}
@@ -98,6 +98,13 @@ pub put-along : (a : Axis) (p : Place) → put a (along a p) p ≡ p
 put-along X p = refl
 put-along Y p = refl
 put-along Z p = refl
+
+-- a place moved up, and down again
+pub back-move : (a : Axis) (d : ℕ) (p : Place) → back a d (move a d p) ≡ p
+back-move a d p =
+    let e = along-put a (along a p + d) p in
+    let start : along a (move a d p) - d ≡ along a p = omega arith in
+    put-put a (along a (move a d p) - d) (along a p + d) p ∙ ap (λ n. put a n p) start ∙ put-along a p
 
 pub each-axis : (a : Axis) → In a axes
 each-axis X = inl refl

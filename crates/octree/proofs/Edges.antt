@@ -93,7 +93,7 @@ unfolding isEdge
 
 -- both ends of an edge are corners of its cell, and so are listed
 
-upper-corner : (a : Axis) (p : Place) (l : ℕ) (q : Place) → along a p ≡ along a q → CornerOf l q p → CornerOf l q (move a (2 ^ l) p)
+pub upper-corner : (a : Axis) (p : Place) (l : ℕ) (q : Place) → along a p ≡ along a q → CornerOf l q p → CornerOf l q (move a (2 ^ l) p)
 upper-corner a p l q e f = put-one (λ b n. (n ≡ along b q) ⊎ (n ≡ along b q + 2 ^ l)) a (along a p + 2 ^ l) p (inr (ap (λ n. n + 2 ^ l) e)) f
 
 module _ (s : Survey) (law : Lawful s) where

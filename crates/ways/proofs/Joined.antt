@@ -20,6 +20,7 @@ use Rattle.records.specs.Keys.{placesOf}
 use Rattle.records.proofs.Keys.{Bytes, length-places}
 use Rattle.octree.specs.Lawful.{Octree}
 use Rattle.octree.proofs.Accepted.{lawful}
+use Rattle.octree.proofs.Levels.{one-end}
 use Rattle.edges.specs.Tables.{placeAt, lowestLevel, lowestAt, farAt, Levelled, Wets, UpperEnd}
 use Rattle.edges.proofs.Find.{one-record}
 use Rattle.edges.proofs.Levels.{undivided-is}
@@ -28,7 +29,6 @@ use Rattle.edges.proofs.Surveyed.{rises-true, corners-few}
 use Rattle.rules.specs.Ways.{passable, BothWays}
 use Rattle.graph.specs.Table.{linkAt, Links}
 use Rattle.rules.specs.Ways.{runsUp, boatGraph}
-use Rattle.ways.proofs.Ends.{one-end}
 use Rattle.ways.proofs.Linking.{LinkedTo}
 use Rattle.ways.proofs.Marks.{mark-passes, passes-mark}
 

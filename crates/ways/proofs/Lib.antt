@@ -1,4 +1,3 @@
-pub mod Ends
 pub mod Linking
 pub mod Marks
 pub mod Joined
