@@ -25,6 +25,7 @@ use Rattle.graph.proofs.Ways.{best-shown, way-length}
 use Rattle.graph.proofs.Transfer.{as-many}
 use Rattle.rules.specs.declared.Passage.{Passage}
 use Rattle.ways.specs.Shows.{Shows, shownBy}
+use Rattle.ways.proofs.Call.{Call, boat, within, answerAmended}
 use Rattle.ways.proofs.Joined.{both-ways}
 
 -- ---- which check gave a number
@@ -255,13 +256,16 @@ no-way-exactly tc tk ta clearance start end way work pass = (
 -- ---- what the call promises
 
 -- the result and the slices that are those of the rules mean what the request says
-pub promised : (tc tk ta : List ℕ) (clearance : Float) (start end : ℕ) (way work : List ℕ) (r : Passage) (way' work' : List ℕ) →
-    Shows (passageAmended tc tk ta clearance start end way work) r way' work' →
-    Shows (passageAmended tc tk ta clearance start end way work) r way' work'
-    × Means (boatGraph tc (amended tk ta) clearance) start end way work (shownBy r way' work')
+pub promised : (call : Call) (amendments : List ℕ) {r : Passage} {way work : List ℕ} → Shows (answerAmended call amendments) r way work →
+    Shows (answerAmended call amendments) r way work
+    × Means (boat (within call (amended (call .corners) amendments))) (call .voyage .start) (call .voyage .end) (call .voyage .way) (call .voyage .work)
+    (shownBy r way work)
 unfolding PassageMeans
-promised tc tk ta clearance start end way work r way' work' s = (
+promised call amendments s = (
   s,
-  subst (Means (boatGraph tc (amended tk ta) clearance) start end way work) (sym (λ i. shownBy (s .result-is i) (s .way-is i) (s .work-is i)))
-      (passage-means tc tk ta clearance start end way work),
+  subst
+      (Means (boat (within call (amended (call .corners) amendments))) (call .voyage .start) (call .voyage .end) (call .voyage .way) (call .voyage .work))
+      (sym (λ i. shownBy (s .result-is i) (s .way-is i) (s .work-is i)))
+      (passage-means (call .cells) (call .corners) amendments (call .clearance) (call .voyage .start) (call .voyage .end) (call .voyage .way)
+      (call .voyage .work)),
 )

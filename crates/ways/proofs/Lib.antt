@@ -1,3 +1,4 @@
+pub mod Call
 pub mod Linking
 pub mod Marks
 pub mod Joined

@@ -1,14 +1,19 @@
 -- `ways::find` meets its contract: checks 1 to 6 with tables of its own, and the rest with amendments or without.
-use mathlib.Core.Path.{sym, subst}
 use Rattle.amendments.proofs.Calls.{empty-is}
-use Rattle.rules.specs.Ways.{passageAmended}
-use Rattle.ways.specs.Shows.{Shows}
-use Rattle.rules.specs.declared.Passage.{Passage}
+use Rattle.ways.proofs.Call.{Call}
 use Rattle.ways.proofs.Amended.{by-tables, without}
 use Rattle.ways.proofs.Laws.{promised}
 use borrow.Author.Needs.{needs}
 use Rattle.ways.proofs.find.Statement.{statement}
 use Rattle.ways.proofs.find.Tie as tie
+
+abbrev call : tie.Start → Call
+call s = record {
+  cells = s .args .cells .now;
+  corners = s .args .corners .now;
+  clearance = s .args .clearance;
+  voyage = record { start = s .args .start; end = s .args .end; way = s .args .way .now; work = s .args .work .now };
+}
 
 -- from checks 1 to 6 to the start, and from what follows them to these checks
 abbrev begin : tie.After-read → tie.Start
@@ -33,10 +38,9 @@ returns : tie.Need-returns
 returns c =
     let t = c .before in
     let r = t .before .before .before in
-    let a = begin r .args in
-    promised (a .cells .now) (a .corners .now) (a .amendments .now) (a .clearance) (a .start) (a .end) (a .way .now) (a .work .now) _ _ _
-    (subst (λ (q : Passage). Shows (passageAmended (a .cells .now) (a .corners .now) (a .amendments .now) (a .clearance) (a .start) (a .end) (a .way .now) (a .work .now)) q (a .way .now) (a .work .now)) (sym (c .refused .ensures))
-    (by-tables (a .cells .now) (a .corners .now) (a .amendments .now) (a .clearance) (a .start) (a .end) (a .way .now) (a .work .now) (r .read .result) (r .read .ensures .0) (t .if1 .taken)))
+    let s = begin r in
+    promised (call s) (s .args .amendments .now)
+    (by-tables (call s) (s .args .amendments .now) _ (r .read .ensures .0) (t .if1 .taken) _ (c .refused .ensures))
 
 slice-aggregate-find-in-force : tie.Need-slice-aggregate-find-in-force
 slice-aggregate-find-in-force c = search needs
@@ -59,9 +63,10 @@ returns-2 c =
     let t = d .before .before .before .before .before in
     let e = t .before in
     let r = checked e in
-    let a = begin r .args in
-    promised (a .cells .now) (a .corners .now) (a .amendments .now) (a .clearance) (a .start) (a .end) (a .way .now) (a .work .now) _ _ _
-    (without (a .cells .now) (a .corners .now) (a .amendments .now) (a .clearance) (a .start) (a .end) (a .way .now) (a .work .now) _ _ _ (empty-is (a .amendments .now) (t .if2 .taken)) (r .read .ensures .1 (e .if1 .left) .passed) (d .find-in-force .ensures))
+    let s = begin r in
+    let amendments = s .args .amendments .now in
+    promised (call s) amendments
+    (without (call s) amendments (empty-is amendments (t .if2 .taken)) (r .read .ensures .1 (e .if1 .left) .passed) (d .find-in-force .ensures))
 
 slice-aggregate-find-amended : tie.Need-slice-aggregate-find-amended
 slice-aggregate-find-amended c = search needs
@@ -81,9 +86,8 @@ same-length-4 c = search needs
 returns-3 : tie.Need-returns-3
 returns-3 c =
     let d = c .before .before .before .before in
-    let a = begin (checked (d .before .before .before .before .before .before)) .args in
-    promised (a .cells .now) (a .corners .now) (a .amendments .now) (a .clearance) (a .start) (a .end) (a .way .now) (a .work .now) _ _ _
-    (d .find-amended .ensures)
+    let s = begin (checked (d .before .before .before .before .before .before)) in
+    promised (call s) (s .args .amendments .now) (d .find-amended .ensures)
 
 pub find-spec : {M : Type 1} → statement M
 find-spec =

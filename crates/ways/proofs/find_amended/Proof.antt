@@ -1,16 +1,22 @@
 -- `ways::find_amended` meets its contract: 14 and 15, then the way with the corner table as amended.
-use mathlib.Core.Path.{_≡_, sym, _∙_, subst}
+use mathlib.Core.Path.{_≡_, sym, _∙_}
 use lib.ListN.{length, take}
 use Rattle.rules.specs.Resounding.{amended}
 use Rattle.amendments.proofs.Calls.{amended-fits}
 use Rattle.checks.proofs.Amended.{tables-kept}
-use Rattle.rules.specs.Ways.{passageAmended}
-use Rattle.ways.specs.Shows.{Shows}
-use Rattle.rules.specs.declared.Passage.{Passage}
+use Rattle.ways.proofs.Call.{Call}
 use Rattle.ways.proofs.Amended.{by-amendments, in-force}
 use borrow.Author.Needs.{needs}
 use Rattle.ways.proofs.find_amended.Statement.{statement}
 use Rattle.ways.proofs.find_amended.Tie as tie
+
+abbrev call : tie.Start → Call
+call s = record {
+  cells = s .args .cells .now;
+  corners = s .args .corners .now;
+  clearance = s .args .asked .clearance;
+  voyage = record { start = s .args .asked .start; end = s .args .asked .end; way = s .args .way .now; work = s .args .work .now };
+}
 
 -- from the checks of the amendments to the start
 abbrev begin : tie.After-refusal → tie.Start
@@ -37,9 +43,8 @@ returns : tie.Need-returns
 returns c =
     let t = c .before in
     let r = t .before .before in
-    let a = begin r .args in
-    subst (λ (q : Passage). Shows (passageAmended (a .cells .now) (a .corners .now) (a .amendments .now) (a .asked .clearance) (a .asked .start) (a .asked .end) (a .way .now) (a .work .now)) q (a .way .now) (a .work .now)) (sym (c .refused .ensures))
-    (by-amendments (a .cells .now) (a .corners .now) (a .amendments .now) (a .asked .clearance) (a .asked .start) (a .asked .end) (a .way .now) (a .work .now) (r .refusal .result) (r .refusal .ensures .0) (t .if1 .taken))
+    let s = begin r in
+    by-amendments (call s) (s .args .amendments .now) _ (r .refusal .ensures .0) (t .if1 .taken) _ (c .refused .ensures)
 
 array-share-prefix-table : tie.Need-array-share-prefix-table
 array-share-prefix-table c =
@@ -69,8 +74,8 @@ returns-2 c =
     let d = c .before .before .before .before in
     let e = d .before .before .before .before in
     let r = checked e in
-    let a = begin r .args in
-    in-force (a .cells .now) (a .corners .now) (a .amendments .now) (a .asked .clearance) (a .asked .start) (a .asked .end) (a .way .now) (a .work .now) _ _ _ (sym (r .refusal .ensures .0) ∙ e .if1 .left) _ (in-front e) (d .find-in-force .ensures)
+    let s = begin r in
+    in-force (call s) (s .args .amendments .now) (sym (r .refusal .ensures .0) ∙ e .if1 .left) _ (in-front e) (d .find-in-force .ensures)
 
 pub find-amended-spec : {M : Type 1} → statement M
 find-amended-spec =

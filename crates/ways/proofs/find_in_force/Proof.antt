@@ -1,18 +1,27 @@
 -- `ways::find_in_force` meets its contract: refused by 7 or 8, by 18 or 19, or what is shown in an accepted survey.
-use mathlib.Core.Path.{sym, _∙_, subst}
+use mathlib.Core.Path.{sym, _∙_}
 use lib.ListN.{length}
-use Rattle.rules.specs.Survey.{recordCount}
-use Rattle.rules.specs.Ways.{passage}
-use Rattle.ways.specs.Shows.{Shows}
-use Rattle.rules.specs.declared.Passage.{Passage}
+use Rattle.ways.proofs.Call.{Call, count}
 use Rattle.ways.proofs.Checks.{neither}
-use Rattle.ways.proofs.Amended.{refused-first, accepted-is, refused-slices, shown}
+use Rattle.ways.proofs.Amended.{refused-first, accepted-is, refused-slices, way-found}
 use borrow.Author.Needs.{needs}
 use Rattle.ways.proofs.find_in_force.Statement.{statement}
 use Rattle.ways.proofs.find_in_force.Tie as tie
 
+abbrev call : tie.Start → Call
+call s = record {
+  cells = s .args .cells .now;
+  corners = s .args .corners .now;
+  clearance = s .args .asked .clearance;
+  voyage = record { start = s .args .asked .start; end = s .args .asked .end; way = s .args .way .now; work = s .args .work .now };
+}
+
+-- from the first refusal to the start, and from the test of the second to the first
 abbrev begin : tie.After-refusal → tie.Start
 begin c = c .before .before .before .before .before .before .before
+
+abbrev passed : tie.After-shortage → tie.Else1
+passed h = h .before
 
 refusal-requires : tie.Need-refusal-requires
 refusal-requires c κs = search needs
@@ -24,9 +33,7 @@ returns : tie.Need-returns
 returns c =
     let t = c .before in
     let r = t .before in
-    let a = begin r .args in
-    subst (λ (q : Passage). Shows (passage (a .cells .now) (a .corners .now) (a .asked .clearance) (a .asked .start) (a .asked .end) (a .way .now) (a .work .now)) q (a .way .now) (a .work .now)) (sym (c .refused .ensures))
-    (refused-first (a .cells .now) (a .corners .now) (a .asked .clearance) (a .asked .start) (a .asked .end) (a .way .now) (a .work .now) (r .refusal .result) (r .refusal .ensures) (t .if1 .taken))
+    refused-first (call (begin r)) _ (r .refusal .ensures) (t .if1 .taken) _ (c .refused .ensures)
 
 shortage-requires : tie.Need-shortage-requires
 shortage-requires c κs = search needs
@@ -38,22 +45,21 @@ returns-2 : tie.Need-returns-2
 returns-2 c =
     let t = c .before in
     let h = t .before in
-    let e = h .before in
+    let e = passed h in
     let r = e .before in
-    let a = begin r .args in
-    subst (λ (q : Passage). Shows (passage (a .cells .now) (a .corners .now) (a .asked .clearance) (a .asked .start) (a .asked .end) (a .way .now) (a .work .now)) q (a .way .now) (a .work .now)) (sym (c .refused2 .ensures))
-    (refused-slices (a .cells .now) (a .corners .now) (a .asked .clearance) (a .asked .start) (a .asked .end) (a .way .now) (a .work .now) (sym (r .refusal .ensures) ∙ e .if1 .left) (h .shortage .result) (h .shortage .ensures) (t .if2 .taken))
+    refused-slices (call (begin r)) (sym (r .refusal .ensures) ∙ e .if1 .left) _ (h .shortage .ensures) (t .if2 .taken) _ (c .refused2 .ensures)
 
 find-accepted-requires : tie.Need-find-accepted-requires
 find-accepted-requires c κs =
     let o = c .before .before in
     let h = o .before in
-    let e = h .before in
+    let e = passed h in
     let r = e .before in
-    let b = begin r in
-    let a = b .args in
-    let (p, q, v, w) = neither (recordCount (a .corners .now)) (a .asked .start) (a .asked .end) (length (a .way .now)) (length (a .work .now)) (sym (h .shortage .ensures) ∙ o .if2 .left) in
-    (b .pre, (accepted-is (a .cells .now) (a .corners .now) (a .asked .clearance) (a .asked .start) (a .asked .end) (a .way .now) (a .work .now) (sym (r .refusal .ensures) ∙ e .if1 .left), ((p, q), (v, w))))
+    let s = begin r in
+    let a = s .args in
+    let (is-start, is-end, way-fits, work-fits) =
+    neither (count (call s)) (a .asked .start) (a .asked .end) (length (a .way .now)) (length (a .work .now)) (sym (h .shortage .ensures) ∙ o .if2 .left) in
+    (s .pre, (accepted-is (call s) (sym (r .refusal .ensures) ∙ e .if1 .left), ((is-start, is-end), (way-fits, work-fits))))
 
 same-length : tie.Need-same-length
 same-length c = search needs
@@ -64,11 +70,9 @@ same-length-2 c = search needs
 returns-3 : tie.Need-returns-3
 returns-3 c =
     let f = c .before .before .before .before in
-    let o = f .before .before .before in
-    let e = o .before .before in
+    let e = passed (f .before .before .before .before) in
     let r = e .before in
-    let a = begin r .args in
-    shown (a .cells .now) (a .corners .now) (a .asked .clearance) (a .asked .start) (a .asked .end) (a .way .now) (a .work .now) (sym (r .refusal .ensures) ∙ e .if1 .left) _ _ _ (f .find-accepted .ensures)
+    way-found (call (begin r)) (sym (r .refusal .ensures) ∙ e .if1 .left) (f .find-accepted .ensures)
 
 pub find-in-force-spec : {M : Type 1} → statement M
 find-in-force-spec =

@@ -1,0 +1,60 @@
+-- A call as one value, so that a law of it names it once: from which corner to which, with which slices, in which survey and at which clearance.
+use Prim.Native.Nat.{ℕ, _≤_, _<_}
+use mathlib.Core.Bool.{Bool}
+use mathlib.Core.List.{List}
+use lib.ListN.{length}
+use lib.Ieee.{Float}
+use Rattle.rules.specs.Survey.{recordCount}
+use Rattle.rules.specs.Outputs.{checks}
+use Rattle.rules.specs.Ways.{Graph, Shown, boatGraph, shownOver, passage, passageAmended}
+use Rattle.rules.specs.declared.Passage.{Passage}
+
+-- two corners, and what the two slices hold before
+pub record Voyage : Type 0 where
+  pub start : ℕ
+  pub end : ℕ
+  pub way : List ℕ
+  pub work : List ℕ
+
+-- neither 18 nor 19 applies to it, of so many corners
+pub record Fits (size : ℕ) (voyage : Voyage) : Type 0 where
+  pub is-start : voyage .start < size
+  pub is-end : voyage .end < size
+  pub way-fits : size ≤ length (voyage .way)
+  pub work-fits : size ≤ length (voyage .work)
+
+-- what is shown of it, after the checks that come first
+abbrev pub shown : Graph → List (ℕ × Bool) → Voyage → Shown
+shown graph before voyage = shownOver graph before (voyage .start) (voyage .end) (voyage .way) (voyage .work)
+
+-- the result of a refusal, where nothing is counted, and of a way
+abbrev pub passage-of : ℕ → ℕ → Passage
+passage-of n c = record { number = n; corners = c }
+
+pub record Call : Type 0 where
+  pub cells : List ℕ
+  pub corners : List ℕ
+  pub clearance : Float
+  pub voyage : Voyage
+
+-- how many corners there are, and these as a graph
+abbrev pub count : Call → ℕ
+count call = recordCount (call .corners)
+
+abbrev pub boat : Call → Graph
+boat call = boatGraph (call .cells) (call .corners) (call .clearance)
+
+-- checks 1 to 8
+abbrev pub earlier : Call → List (ℕ × Bool)
+earlier call = checks (call .cells) (call .corners) (call .clearance)
+
+abbrev pub answer : Call → Shown
+answer call = passage (call .cells) (call .corners) (call .clearance) (call .voyage .start) (call .voyage .end) (call .voyage .way) (call .voyage .work)
+
+-- the same call in another corner table
+abbrev pub within : Call → List ℕ → Call
+within call table = record { cells = call .cells; corners = table; clearance = call .clearance; voyage = call .voyage }
+
+abbrev pub answerAmended : Call → List ℕ → Shown
+answerAmended call amendments =
+    passageAmended (call .cells) (call .corners) amendments (call .clearance) (call .voyage .start) (call .voyage .end) (call .voyage .way) (call .voyage .work)
