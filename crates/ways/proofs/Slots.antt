@@ -9,21 +9,22 @@ use lib.Ieee.{Float}
 use lib.ListN.{getD, set}
 use borrow.Author.Tests.{le-leb, lt-leb, eq-eqb, ne-eqb, leb-true, leb-false, eqb-true, eqb-false}
 use Rattle.rules.specs.Survey.{recordCount}
-use Rattle.rules.specs.Outputs.{accepted}
-use Rattle.records.proofs.Keys.{Bytes}
-use Rattle.edges.specs.Tables.{lowestAt, farAt, Levelled, Wets}
 use Rattle.edges.proofs.Readings.{no-refusal}
 use Rattle.edges.proofs.Surveyed.{corners-few}
 use Rattle.ways.specs.Linked.{isStep, linkedAt}
 use Rattle.ways.proofs.Linking.{LinkedTo, link-none, link-next}
-use Rattle.ways.proofs.Joined.{Step, slot-end, step-functional, step-injective}
+use Rattle.ways.proofs.Joined.{lowestFrom, farFrom, Step, Filled, slot-end, step-functional, step-injective}
+
+-- the links of the slots before x are in
+abbrev pub Linked : List ℕ → List ℕ → List ℕ → List ℕ → ℕ → Type 0
+Linked tk wets slots = LinkedTo (recordCount tk) (Step tk wets slots)
 
 module _ (wets slots : List ℕ) (n k : ℕ) (t : List ℕ) where
   abbrev level : ℕ
-  level = lowestAt slots (4872 * n + k)
+  level = lowestFrom slots n k
 
   abbrev far : ℕ
-  far = farAt slots (4872 * n + k)
+  far = farFrom slots n k
 
   and-false : (b : Bool) → (b && false) ≡ false
   and-false true = refl
@@ -57,41 +58,41 @@ module _ (wets slots : List ℕ) (n k : ℕ) (t : List ℕ) where
       ∙ sym (ap (λ (b : Bool). cond b (set (set t (6 * k + (3 + n)) far) (6 * far + n) k) t)
       (λ d. le-leb level 10 h d && (eq-eqb (getD wets k 0) 1 a d && eq-eqb (getD wets far 0) 1 (ap (λ (j : ℕ). getD wets j 0) (sym q) ∙ b) d)))
 
-module _ (tc tk : List ℕ) (clearance : Float) (ok : accepted tc tk clearance ≡ true) (bytes : Bytes tk) (slots : List ℕ) (known : Levelled tc tk slots)
-    (wets : List ℕ) (marks : Wets tk clearance wets) where
+module _ {tc tk : List ℕ} {clearance : Float} {slots wets : List ℕ} (filled : Filled tc tk clearance slots wets) where
   pub few-corners : recordCount tk ≤ 4872
-  few-corners = let c = corners-few tc tk (no-refusal tc tk clearance ok) in omega arith
+  few-corners = let c = corners-few tc tk (no-refusal tc tk clearance (filled .ok)) in omega arith
 
-  pub far-inside : (n k : ℕ) → n < 3 → k < recordCount tk → lowestAt slots (4872 * n + k) ≤ 10 → farAt slots (4872 * n + k) < recordCount tk
-  far-inside n k g h o = slot-end tc tk clearance ok bytes slots known n k g h o .inside
+  pub far-inside : (n k : ℕ) → n < 3 → k < recordCount tk → lowestFrom slots n k ≤ 10 → farFrom slots n k < recordCount tk
+  far-inside n k g h o = slot-end filled n k g h o .inside
 
   -- the links of one slot more
-  pub slot-linked : (t : List ℕ) (n k x : ℕ) → n < 3 → k < recordCount tk → x ≡ 3 * k + n → LinkedTo (recordCount tk) (Step tk wets slots) t x →
-      (t' : List ℕ) → t' ≡ linkedAt wets slots n k t → LinkedTo (recordCount tk) (Step tk wets slots) t' (x + 1)
-  slot-linked t n k x g h e l t' q = subst (λ (y : List ℕ). LinkedTo (recordCount tk) (Step tk wets slots) y (x + 1)) (sym q)
-      (go (leb (lowestAt slots (4872 * n + k)) 10) refl (eqb (getD wets k 0) 1) refl (eqb (getD wets (farAt slots (4872 * n + k)) 0) 1) refl)
-    where
-      f : ℕ
-      f = farAt slots (4872 * n + k)
+  module _ (n k x : ℕ) (g : n < 3) (h : k < recordCount tk) (e : x ≡ 3 * k + n) (t : List ℕ) (known : Linked tk wets slots t x) where
+    none-linked : isStep wets slots n k ≡ false → ((m : ℕ) → Step tk wets slots n k m → ⊥) → Linked tk wets slots (linkedAt wets slots n k t) (x + 1)
+    none-linked u none =
+        subst (λ (y : List ℕ). Linked tk wets slots y (x + 1)) (not-step wets slots n k t u)
+        (link-none (recordCount tk) (Step tk wets slots) few-corners t n k x g e none known)
 
-      none : isStep wets slots n k ≡ false → ((m : ℕ) → Step tk wets slots n k m → ⊥) → LinkedTo (recordCount tk) (Step tk wets slots) (linkedAt wets slots n k t) (x + 1)
-      none u no-step =
-          subst (λ (y : List ℕ). LinkedTo (recordCount tk) (Step tk wets slots) y (x + 1)) (not-step wets slots n k t u)
-          (link-none (recordCount tk) (Step tk wets slots) few-corners t n k x g e no-step l)
+    one-linked : lowestFrom slots n k ≤ 10 → getD wets k 0 ≡ 1 → getD wets (farFrom slots n k) 0 ≡ 1 →
+        Linked tk wets slots (linkedAt wets slots n k t) (x + 1)
+    one-linked level lower-wet upper-wet =
+        let far = farFrom slots n k in
+        let upper = far-inside n k g h level in
+        subst (λ (y : List ℕ). Linked tk wets slots y (x + 1)) (both-wet wets slots n k t far refl level lower-wet upper-wet far refl)
+        (link-next (recordCount tk) (Step tk wets slots) few-corners (step-functional filled) (step-injective filled) t n k far x g e h upper
+        (record { axis = g; lower = h; upper = upper; level = level; far = refl; lower-wet = lower-wet; upper-wet = upper-wet }) known)
 
-      go : (a : Bool) → leb (lowestAt slots (4872 * n + k)) 10 ≡ a → (b : Bool) → eqb (getD wets k 0) 1 ≡ b →
-          (c : Bool) → eqb (getD wets (farAt slots (4872 * n + k)) 0) 1 ≡ c → LinkedTo (recordCount tk) (Step tk wets slots) (linkedAt wets slots n k t) (x + 1)
-      go false a b' b c' c = none (λ d. a d && (b d && c d)) (λ m s. let z = leb-false (lowestAt slots (4872 * n + k)) 10 a in let y = s .level in omega arith)
-      go true a false b c' c = none (λ d. a d && (b d && c d)) (λ m s. eqb-false (getD wets k 0) 1 b (s .lower-wet))
-      go true a true b false c =
-          none (λ d. a d && (b d && c d)) (λ m s. eqb-false (getD wets (farAt slots (4872 * n + k)) 0) 1 c (ap (λ (j : ℕ). getD wets j 0) (s .far) ∙ s .upper-wet))
-      go true a true b true c =
-          let o = leb-true (lowestAt slots (4872 * n + k)) 10 a in
-          let wk = eqb-true (getD wets k 0) 1 b in
-          let wf = eqb-true (getD wets (farAt slots (4872 * n + k)) 0) 1 c in
-          let up = far-inside n k g h o in
-          subst (λ (y : List ℕ). LinkedTo (recordCount tk) (Step tk wets slots) y (x + 1))
-          (both-wet wets slots n k t (farAt slots (4872 * n + k)) refl o wk wf (farAt slots (4872 * n + k)) refl)
-          (link-next (recordCount tk) (Step tk wets slots) few-corners (step-functional tc tk clearance ok bytes slots known wets marks)
-          (step-injective tc tk clearance ok bytes slots known wets marks) t n k (farAt slots (4872 * n + k)) x g e h up
-          (record { axis = g; lower = h; upper = up; level = o; far = refl; lower-wet = wk; upper-wet = wf }) l)
+    pub slot-linked : (new : List ℕ) → new ≡ linkedAt wets slots n k t → Linked tk wets slots new (x + 1)
+    slot-linked new is =
+        subst (λ (y : List ℕ). Linked tk wets slots y (x + 1)) (sym is)
+        (go (leb (lowestFrom slots n k) 10) refl (eqb (getD wets k 0) 1) refl (eqb (getD wets (farFrom slots n k) 0) 1) refl)
+      where
+        go : (a : Bool) → leb (lowestFrom slots n k) 10 ≡ a → (b : Bool) → eqb (getD wets k 0) 1 ≡ b →
+            (c : Bool) → eqb (getD wets (farFrom slots n k) 0) 1 ≡ c → Linked tk wets slots (linkedAt wets slots n k t) (x + 1)
+        go false u b v c w =
+            none-linked (λ d. u d && (v d && w d)) (λ m s. let z = leb-false (lowestFrom slots n k) 10 u in let y = s .level in omega arith)
+        go true u false v c w = none-linked (λ d. u d && (v d && w d)) (λ m s. eqb-false (getD wets k 0) 1 v (s .lower-wet))
+        go true u true v false w =
+            none-linked (λ d. u d && (v d && w d))
+            (λ m s. eqb-false (getD wets (farFrom slots n k) 0) 1 w (ap (λ (j : ℕ). getD wets j 0) (s .far) ∙ s .upper-wet))
+        go true u true v true w =
+            one-linked (leb-true (lowestFrom slots n k) 10 u) (eqb-true (getD wets k 0) 1 v) (eqb-true (getD wets (farFrom slots n k) 0) 1 w)

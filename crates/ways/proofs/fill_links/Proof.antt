@@ -6,17 +6,16 @@ use native.Mathlib.Omega.{arith}
 use lib.ListN.{length, length-replicate}
 use Rattle.rules.specs.Survey.{recordCount}
 use Rattle.records.proofs.Keys.{Bytes}
-use Rattle.edges.specs.Tables.{lowestAt, farAt}
 use Rattle.ways.specs.Linked.{linkedAt}
-use Rattle.ways.proofs.Linking.{LinkedTo, link-start}
-use Rattle.ways.proofs.Joined.{Step, linked}
-use Rattle.ways.proofs.Slots.{few-corners, far-inside, slot-linked}
+use Rattle.ways.proofs.Linking.{link-start}
+use Rattle.ways.proofs.Joined.{lowestFrom, farFrom, Step, Filled, linked}
+use Rattle.ways.proofs.Slots.{Linked, few-corners, far-inside, slot-linked}
 use borrow.Author.Needs.{needs}
 use Rattle.ways.proofs.fill_links.Statement.{statement}
 use Rattle.ways.proofs.fill_links.Tie as tie
 
 abbrev Inv-loop : tie.InvT-loop
-Inv-loop cells corners clearance wets slots links₀ count k₀ links k = LinkedTo (recordCount corners) (Step corners wets slots) links (3 * k) × (k ≤ count)
+Inv-loop cells corners clearance wets slots links₀ count k₀ links k = Linked corners wets slots links (3 * k) × (k ≤ count)
 
 abbrev μ-loop : tie.MeasureT-loop
 μ-loop cells corners clearance wets slots links₀ count k₀ links k = count - k
@@ -25,58 +24,59 @@ abbrev begin : tie.At-loop Inv-loop μ-loop → tie.Start Inv-loop μ-loop
 begin l = l .before .before .before .before .before .before
 
 -- the links that are in, of a table
-abbrev Linked : tie.At-loop Inv-loop μ-loop → List ℕ → ℕ → Type 0
-Linked l = LinkedTo (recordCount (begin l .args .corners .now)) (Step (begin l .args .corners .now) (begin l .args .wets .now) (begin l .args .slots .now))
+abbrev LinkedAt : tie.At-loop Inv-loop μ-loop → List ℕ → ℕ → Type 0
+LinkedAt l = Linked (begin l .args .corners .now) (begin l .args .wets .now) (begin l .args .slots .now)
+
+module _ (s : tie.Start Inv-loop μ-loop) where
+  abbrev FilledAt : Type 0
+  FilledAt = Filled (s .args .cells .now) (s .args .corners .now) (s .args .clearance) (s .args .slots .now) (s .args .wets .now)
+
+  filled-at : Bytes (s .args .corners .now) → FilledAt
+  filled-at bytes = let (ok, (marks, (levelled, empty))) = s .pre in record { ok = ok; bytes = bytes; levelled = levelled; marks = marks }
 
 module _ (l : tie.At-loop Inv-loop μ-loop) where
-  bytes : Bytes (begin l .args .corners .now)
-  bytes = l .before .before .before .before .shared-slice-known2 .given
+  filled : FilledAt (begin l)
+  filled = filled-at (begin l) (l .before .before .before .before .shared-slice-known2 .given)
 
   few : recordCount (begin l .args .corners .now) ≤ 4872
-  few = few-corners (begin l .args .cells .now) (begin l .args .corners .now) (begin l .args .clearance) (begin l .pre .0) bytes
-      (begin l .args .slots .now) (begin l .pre .1 .1 .0) (begin l .args .wets .now) (begin l .pre .1 .0)
+  few = few-corners filled
 
   module _ (h : l .loop .k < recordCount (begin l .args .corners .now)) (n : ℕ) (g : n < 3) where
-    far-few : lowestAt (begin l .args .slots .now) (4872 * n + l .loop .k) ≤ 10 → farAt (begin l .args .slots .now) (4872 * n + l .loop .k) < 4872
-    far-few o =
-        let a = far-inside (begin l .args .cells .now) (begin l .args .corners .now) (begin l .args .clearance) (begin l .pre .0) bytes
-        (begin l .args .slots .now) (begin l .pre .1 .1 .0) (begin l .args .wets .now) (begin l .pre .1 .0) n (l .loop .k) g h o in
-        omega (arith, few)
+    far-few : lowestFrom (begin l .args .slots .now) n (l .loop .k) ≤ 10 → farFrom (begin l .args .slots .now) n (l .loop .k) < 4872
+    far-few o = let a = far-inside filled n (l .loop .k) g h o in omega (arith, few)
 
-    more : (x : ℕ) (t t' : List ℕ) → x ≡ 3 * l .loop .k + n → Linked l t x → t' ≡ linkedAt (begin l .args .wets .now) (begin l .args .slots .now) n (l .loop .k) t → Linked l t' (x + 1)
-    more x t t' e known q =
-        slot-linked (begin l .args .cells .now) (begin l .args .corners .now) (begin l .args .clearance) (begin l .pre .0) bytes
-        (begin l .args .slots .now) (begin l .pre .1 .1 .0) (begin l .args .wets .now) (begin l .pre .1 .0) t n (l .loop .k) x g h e known t' q
+    more : (x : ℕ) → x ≡ 3 * l .loop .k + n → {t : List ℕ} → LinkedAt l t x →
+        {new : List ℕ} → new ≡ linkedAt (begin l .args .wets .now) (begin l .args .slots .now) n (l .loop .k) t → LinkedAt l new (x + 1)
+    more x e {t} known {new} is = slot-linked filled n (l .loop .k) x g h e t known new is
 
-first : (r : tie.After-link Inv-loop μ-loop) → Linked (r .before .before .before) (r .link .last .1 .1 .1 .1 .0) (3 * r .before .before .before .loop .k + 1)
+first : (r : tie.After-link Inv-loop μ-loop) → LinkedAt (r .before .before .before) (r .link .last .1 .1 .1 .1 .0) (3 * r .before .before .before .loop .k + 1)
 first r =
     let l = r .before .before .before in
-    more l (r .before .before .loop-test .taken) 0 (omega arith) (3 * l .loop .k) _ _ (omega arith) (l .loop .inv .0) (r .link .ensures)
+    more l (r .before .before .loop-test .taken) 0 (omega arith) (3 * l .loop .k) (omega arith) (l .loop .inv .0) (r .link .ensures)
 
 second : (r : tie.After-link2 Inv-loop μ-loop) →
     let l = r .before .before .before .before .before .before .before in
-    Linked l (r .link2 .last .1 .1 .1 .1 .0) (3 * l .loop .k + 1 + 1)
+    LinkedAt l (r .link2 .last .1 .1 .1 .1 .0) (3 * l .loop .k + 1 + 1)
 second r =
     let q = r .before .before .before .before in
     let l = q .before .before .before in
-    more l (q .before .before .loop-test .taken) 1 (omega arith) (3 * l .loop .k + 1) _ _ refl (first q) (r .link2 .ensures)
+    more l (q .before .before .loop-test .taken) 1 (omega arith) (3 * l .loop .k + 1) refl (first q) (r .link2 .ensures)
 
 third : (r : tie.After-link3 Inv-loop μ-loop) →
     let l = r .before .before .before .before .before .before .before .before .before .before .before in
-    Linked l (r .link3 .last .1 .1 .1 .1 .0) (3 * l .loop .k + 1 + 1 + 1)
+    LinkedAt l (r .link3 .last .1 .1 .1 .1 .0) (3 * l .loop .k + 1 + 1 + 1)
 third r =
     let p = r .before .before .before .before in
     let q = p .before .before .before .before in
     let l = q .before .before .before in
-    more l (q .before .before .loop-test .taken) 2 (omega arith) (3 * l .loop .k + 1 + 1) _ _ (omega arith) (second p) (r .link3 .ensures)
+    more l (q .before .before .loop-test .taken) 2 (omega arith) (3 * l .loop .k + 1 + 1) (omega arith) (second p) (r .link3 .ensures)
 
 loop-holds : tie.Need-loop-holds Inv-loop μ-loop
 loop-holds c =
-    let b = c .before .before .before .before .before in
-    let a = b .args in
-    let few = few-corners (a .cells .now) (a .corners .now) (a .clearance) (b .pre .0) (c .before .before .before .shared-slice-known2 .given)
-    (a .slots .now) (b .pre .1 .1 .0) (a .wets .now) (b .pre .1 .0) in (
-      subst (λ (t : List ℕ). LinkedTo (recordCount (a .corners .now)) (Step (a .corners .now) (a .wets .now) (a .slots .now)) t 0) (sym (b .pre .1 .1 .1))
+    let s = c .before .before .before .before .before in
+    let a = s .args in
+    let few = few-corners (filled-at s (c .before .before .before .shared-slice-known2 .given)) in (
+      subst (λ (t : List ℕ). Linked (a .corners .now) (a .wets .now) (a .slots .now) t 0) (sym (s .pre .1 .1 .1))
           (link-start (recordCount (a .corners .now)) (Step (a .corners .now) (a .wets .now) (a .slots .now)) few 29232 refl),
       omega arith,
     )
@@ -114,7 +114,7 @@ loop-again c =
     let q = r .before .before .before .before .before .before .before .before in
     let l = q .before .before .before in
     let e : 3 * l .loop .k + 1 + 1 + 1 ≡ 3 * (l .loop .k + 1) = omega arith in
-    (subst (Linked l (r .link3 .last .1 .1 .1 .1 .0)) e (third r), omega (arith, q .before .before .loop-test .taken))
+    (subst (LinkedAt l (r .link3 .last .1 .1 .1 .1 .0)) e (third r), omega (arith, q .before .before .loop-test .taken))
 
 same-length : tie.Need-same-length Inv-loop μ-loop
 same-length c =
@@ -124,9 +124,7 @@ same-length c =
 returns : tie.Need-returns Inv-loop μ-loop
 returns c =
     let l = c .before in
-    let a = begin l .args in
-    linked (a .cells .now) (a .corners .now) (a .clearance) (begin l .pre .0) (bytes l) (a .slots .now) (begin l .pre .1 .1 .0) (a .wets .now) (begin l .pre .1 .0)
-    (l .loop .links) (3 * l .loop .k) (omega (arith, c .loop-test .left)) (l .loop .inv .0)
+    linked (filled l) (l .loop .links) (3 * l .loop .k) (omega (arith, c .loop-test .left)) (l .loop .inv .0)
 
 pub fill-links-spec : {M : Type 1} → statement M
 fill-links-spec =
