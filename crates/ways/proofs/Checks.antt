@@ -12,11 +12,11 @@ use Rattle.octree.proofs.Accepted.{none-applies, first-unlike}
 use Rattle.rules.specs.Outputs.{firstOf}
 use Rattle.rules.specs.Ways.{askedChecks}
 
-and-false : (b : Bool) → (b && false) ≡ false
+pub and-false : (b : Bool) → (b && false) ≡ false
 and-false true = refl
 and-false false = refl
 
-or-true : (b : Bool) → (b || true) ≡ true
+pub or-true : (b : Bool) → (b || true) ≡ true
 or-true true = refl
 or-true false = refl
 

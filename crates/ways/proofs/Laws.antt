@@ -25,8 +25,10 @@ use Rattle.graph.proofs.Ways.{best-shown, way-length}
 use Rattle.graph.proofs.Transfer.{as-many}
 use Rattle.rules.specs.declared.Passage.{Passage}
 use Rattle.ways.specs.Shows.{Shows, shownBy}
-use Rattle.ways.proofs.Call.{Call, boat, within, answerAmended}
+use Rattle.ways.proofs.Call.{Voyage, shown, Call, boat, within, answerAmended}
+use Rattle.ways.proofs.Checks.{or-true}
 use Rattle.ways.proofs.Joined.{both-ways}
+use Rattle.ways.proofs.Outcome.{numbers, corners, route, later}
 
 -- ---- which check gave a number
 
@@ -47,92 +49,100 @@ not-listed (t ∷ ts) n b u (inr i) = not-listed ts n b (and→ (not (eqb (t .0)
 
 -- ---- what is shown
 
-module _ (graph : Graph) (both : BothWays graph) (before : List (ℕ × Bool)) (no-zero : T (numbered before)) (no-twenty : T (all (λ t. not (eqb (t .0) 20)) before))
-    (start end : ℕ) (way work : List ℕ) where
+-- no check in a list has the number 20
+abbrev NoTwenty : List (ℕ × Bool) → Type 0
+NoTwenty ts = T (all (λ t. not (eqb (t .0) 20)) ts)
+
+module _ (graph : Graph) (both : BothWays graph) (before : List (ℕ × Bool)) (no-zero : T (numbered before)) (no-twenty : NoTwenty before) (voyage : Voyage) where
   abbrev number : ℕ
-  number = firstOf (before ++ wayChecks graph start end way work)
+  number = firstOf (before ++ later graph voyage)
 
-  abbrev corners : ℕ
-  corners = getD (steps graph start) end 0
+  -- what the slices hold then
+  abbrev new-way : List ℕ
+  new-way = written (route graph voyage) (voyage .way)
 
-  steps-size : length (steps graph start) ≡ graph .size
-  steps-size = stepped graph start .sized
+  abbrev new-work : List ℕ
+  new-work = written (numbers graph voyage) (voyage .work)
 
-  front-work : take (graph .size) (written (steps graph start) work) ≡ steps graph start
-  front-work = take-at (steps graph start) (drop (length (steps graph start)) work) (graph .size) steps-size
+  numbers-size : length (numbers graph voyage) ≡ graph .size
+  numbers-size = stepped graph (voyage .start) .sized
 
-  rest-work : drop (graph .size) (written (steps graph start) work) ≡ drop (graph .size) work
-  rest-work = drop-at (steps graph start) (drop (length (steps graph start)) work) (graph .size) steps-size ∙ ap (λ (n : ℕ). drop n work) steps-size
+  front-work : take (graph .size) new-work ≡ numbers graph voyage
+  front-work = take-at (numbers graph voyage) (drop (length (numbers graph voyage)) (voyage .work)) (graph .size) numbers-size
+
+  rest-work : drop (graph .size) new-work ≡ drop (graph .size) (voyage .work)
+  rest-work =
+      drop-at (numbers graph voyage) (drop (length (numbers graph voyage)) (voyage .work)) (graph .size) numbers-size
+      ∙ ap (λ (n : ℕ). drop n (voyage .work)) numbers-size
 
   -- where there is no refusal, the end is reached
-  reached : firstOf (before ++ wayChecks graph start end way work) ≡ 0 → eqb (getD (steps graph start) end 0) 0 ≡ false
+  reached : number ≡ 0 → eqb (corners graph voyage) 0 ≡ false
   reached z =
-      none-applies (wayChecks graph start end way work) tt (first-none before (wayChecks graph start end way work) no-zero z .1) (20, eqb (getD (steps graph start) end 0) 0)
-      (inr (inr (inl refl)))
+      none-applies (later graph voyage) tt (first-none before (later graph voyage) no-zero z .1) (20, eqb (corners graph voyage) 0) (inr (inr (inl refl)))
 
-  way-size : (m : ℕ) → getD (steps graph start) end 0 ≡ m → eqb m 0 ≡ false → length (wayOf graph start end) ≡ m
+  way-size : (m : ℕ) → corners graph voyage ≡ m → eqb m 0 ≡ false → length (route graph voyage) ≡ m
   way-size zero e z = absurd (eqb-false 0 0 z refl)
-  way-size (suc m) e z = way-length graph both start end m (as-many graph both start end ∙ e)
+  way-size (suc m) e z = way-length graph both (voyage .start) (voyage .end) m (as-many graph both (voyage .start) (voyage .end) ∙ e)
 
-  is-best : (m : ℕ) → getD (steps graph start) end 0 ≡ m → eqb m 0 ≡ false → Best graph start end (wayOf graph start end)
+  is-best : (m : ℕ) → corners graph voyage ≡ m → eqb m 0 ≡ false → Best graph (voyage .start) (voyage .end) (route graph voyage)
   unfolding BestShown StepsExact
   is-best zero e z = absurd (eqb-false 0 0 z refl)
-  is-best (suc m) e z = let (w, y, l) = steps-exact graph start .there end m e in best-shown graph both start end w y
+  is-best (suc m) e z =
+      let (w, y, l) = steps-exact graph (voyage .start) .there (voyage .end) m e in
+      best-shown graph both (voyage .start) (voyage .end) w y
 
   -- where 20 is given, it is not
-  unreached : firstOf (before ++ wayChecks graph start end way work) ≡ 20 → getD (steps graph start) end 0 ≡ 0
+  unreached : number ≡ 20 → corners graph voyage ≡ 0
   unreached e =
-      let (b, i, t) = applies (before ++ wayChecks graph start end way work) 20 (λ z. omega arith) e in
-      go b t (in-append (20, b) before (wayChecks graph start end way work) i)
+      let (b, i, t) = applies (before ++ later graph voyage) 20 (λ z. omega arith) e in
+      go b t (in-append (20, b) before (later graph voyage) i)
     where
-      go : (b : Bool) → T b → In (20, b) before ⊎ In (20, b) (wayChecks graph start end way work) → getD (steps graph start) end 0 ≡ 0
+      go : (b : Bool) → T b → In (20, b) before ⊎ In (20, b) (later graph voyage) → corners graph voyage ≡ 0
       go b t (inl i) = absurd (not-listed before 20 b no-twenty i)
       go b t (inr (inl q)) = let z = ap (λ (x : ℕ × Bool). x .0) q in absurd (omega arith)
       go b t (inr (inr (inl q))) = let z = ap (λ (x : ℕ × Bool). x .0) q in absurd (omega arith)
-      go b t (inr (inr (inr (inl q)))) = eqb→eq (getD (steps graph start) end 0) 0 (subst T (ap (λ (x : ℕ × Bool). x .1) q) t)
+      go b t (inr (inr (inr (inl q)))) = eqb→eq (corners graph voyage) 0 (subst T (ap (λ (x : ℕ × Bool). x .1) q) t)
       go b t (inr (inr (inr (inr q)))) = absurd q
 
-  pub means : Means graph start end way work (shownOver graph before start end way work)
+  pub means : Means graph (voyage .start) (voyage .end) (voyage .way) (voyage .work) (shown graph before voyage)
   unfolding shownOver StepsExact
   means = record {
-    best = λ z. subst (λ (w : List ℕ). Best graph start end w) (sym (taken z)) (is-best corners refl (reached z));
-    none = λ e w y. let a = steps-exact graph start .none-shorter end w y .0 in let b = unreached e in omega arith;
-    exact = λ o. subst (λ (l : List ℕ). Exact graph start l) (sym (front o)) (steps-exact graph start);
+    best = λ z. subst (λ (w : List ℕ). Best graph (voyage .start) (voyage .end) w) (sym (taken z)) (is-best (corners graph voyage) refl (reached z));
+    none = λ e w y. let a = steps-exact graph (voyage .start) .none-shorter (voyage .end) w y .0 in let b = unreached e in omega arith;
+    exact = λ o. subst (λ (l : List ℕ). Exact graph (voyage .start) l) (sym (front o)) (steps-exact graph (voyage .start));
     way-kept = way-rest (eqb number 0) refl;
     work-kept = work-rest (eqb number 0 || eqb number 20);
   }
     where
-      n : ℕ
-      n = firstOf (before ++ wayChecks graph start end way work)
+      -- the count that is returned, and the way slice, by whether there is a way
+      counted : Bool → ℕ
+      counted b = cond b (corners graph voyage) 0
 
-      c : ℕ
-      c = getD (steps graph start) end 0
+      way-slice : Bool → List ℕ
+      way-slice b = cond b new-way (voyage .way)
 
-      taken : firstOf (before ++ wayChecks graph start end way work) ≡ 0 →
-          take (cond (eqb n 0) c 0) (cond (eqb n 0) (written (wayOf graph start end) way) way) ≡ wayOf graph start end
+      taken : number ≡ 0 → take (counted (eqb number 0)) (way-slice (eqb number 0)) ≡ route graph voyage
       taken z =
-          (λ i. take (cond (eq-eqb n 0 z i) c 0) (cond (eq-eqb n 0 z i) (written (wayOf graph start end) way) way))
-          ∙ take-at (wayOf graph start end) (drop (length (wayOf graph start end)) way) c (way-size c refl (reached z))
+          ap (λ (b : Bool). take (counted b) (way-slice b)) (eq-eqb number 0 z)
+          ∙ take-at (route graph voyage) (drop (length (route graph voyage)) (voyage .way)) (corners graph voyage)
+          (way-size (corners graph voyage) refl (reached z))
 
-      front : (n ≡ 0) ⊎ (n ≡ 20) → take (graph .size) (cond (eqb n 0 || eqb n 20) (written (steps graph start) work) work) ≡ steps graph start
-      front (inl z) =
-          (λ i. take (graph .size) (cond (eq-eqb n 0 z i || eqb n 20) (written (steps graph start) work) work)) ∙ front-work
-      front (inr z) =
-          ap (λ (b : Bool). take (graph .size) (cond b (written (steps graph start) work) work)) ((λ i. eqb n 0 || eq-eqb n 20 z i) ∙ last (eqb n 0)) ∙ front-work
+      front : (number ≡ 0) ⊎ (number ≡ 20) → take (graph .size) (cond (eqb number 0 || eqb number 20) new-work (voyage .work)) ≡ numbers graph voyage
+      front o = ap (λ (b : Bool). take (graph .size) (cond b new-work (voyage .work))) (written-then o) ∙ front-work
         where
-          last : (b : Bool) → (b || true) ≡ true
-          last true = refl
-          last false = refl
+          written-then : (number ≡ 0) ⊎ (number ≡ 20) → (eqb number 0 || eqb number 20) ≡ true
+          written-then (inl z) = λ i. eq-eqb number 0 z i || eqb number 20
+          written-then (inr z) = (λ i. eqb number 0 || eq-eqb number 20 z i) ∙ or-true (eqb number 0)
 
-      way-rest : (b : Bool) → eqb n 0 ≡ b → drop (cond (eqb n 0) c 0) (cond (eqb n 0) (written (wayOf graph start end) way) way) ≡ drop (cond (eqb n 0) c 0) way
-      way-rest false e = (λ i. drop (cond (e i) c 0) (cond (e i) (written (wayOf graph start end) way) way)) ∙ sym (λ i. drop (cond (e i) c 0) way)
+      way-rest : (b : Bool) → eqb number 0 ≡ b → drop (counted (eqb number 0)) (way-slice (eqb number 0)) ≡ drop (counted (eqb number 0)) (voyage .way)
+      way-rest false e = ap (λ (b : Bool). drop (counted b) (way-slice b)) e ∙ sym (ap (λ (b : Bool). drop (counted b) (voyage .way)) e)
       way-rest true e =
-          let l = way-size c refl (reached (eqb-true n 0 e)) in
-          (λ i. drop (cond (e i) c 0) (cond (e i) (written (wayOf graph start end) way) way))
-          ∙ drop-at (wayOf graph start end) (drop (length (wayOf graph start end)) way) c l ∙ ap (λ (m : ℕ). drop m way) l
-          ∙ sym (λ i. drop (cond (e i) c 0) way)
+          let l = way-size (corners graph voyage) refl (reached (eqb-true number 0 e)) in
+          ap (λ (b : Bool). drop (counted b) (way-slice b)) e
+          ∙ drop-at (route graph voyage) (drop (length (route graph voyage)) (voyage .way)) (corners graph voyage) l ∙ ap (λ (m : ℕ). drop m (voyage .way)) l
+          ∙ sym (ap (λ (b : Bool). drop (counted b) (voyage .way)) e)
 
-      work-rest : (b : Bool) → drop (graph .size) (cond b (written (steps graph start) work) work) ≡ drop (graph .size) work
+      work-rest : (b : Bool) → drop (graph .size) (cond b new-work (voyage .work)) ≡ drop (graph .size) (voyage .work)
       work-rest true = rest-work
       work-rest false = refl
 
@@ -154,8 +164,8 @@ pub passage-means : PassageMeans
 unfolding PassageMeans passageAmended passage
 passage-means tc tk ta clearance start end way work = go (eqb (firstOf (amendmentChecks tc tk ta)) 0) refl
   where
-    numbers : T (numbered (checks tc (amended tk ta) clearance)) × T (all (λ t. not (eqb (t .0) 20)) (checks tc (amended tk ta) clearance))
-    numbers = unfold checks surveyChecks tableChecks in (tt, tt)
+    listed : T (numbered (checks tc (amended tk ta) clearance)) × NoTwenty (checks tc (amended tk ta) clearance)
+    listed = unfold checks surveyChecks tableChecks in (tt, tt)
 
     not-twenty : firstOf (amendmentChecks tc tk ta) ≡ 20 → ⊥
     not-twenty e =
@@ -164,8 +174,8 @@ passage-means tc tk ta clearance start end way work = go (eqb (firstOf (amendmen
     go : (b : Bool) → eqb (firstOf (amendmentChecks tc tk ta)) 0 ≡ b → Means (boatGraph tc (amended tk ta) clearance) start end way work
         (cond b (passage tc (amended tk ta) clearance start end way work) (notShown (firstOf (amendmentChecks tc tk ta)) way work))
     go true e =
-        means (boatGraph tc (amended tk ta) clearance) (both-ways tc (amended tk ta) clearance) (checks tc (amended tk ta) clearance) (numbers .0) (numbers .1)
-        start end way work
+        means (boatGraph tc (amended tk ta) clearance) (both-ways tc (amended tk ta) clearance) (checks tc (amended tk ta) clearance) (listed .0) (listed .1)
+        (record { start = start; end = end; way = way; work = work })
     go false e =
         nothing-means (boatGraph tc (amended tk ta) clearance) start end way work (firstOf (amendmentChecks tc tk ta))
         (eqb-false (firstOf (amendmentChecks tc tk ta)) 0 e) not-twenty
@@ -227,31 +237,30 @@ pub no-way-exactly : NoWayExactly
 unfolding NoWayExactly PassageInOrder PassageMeans StepsExact
 no-way-exactly tc tk ta clearance start end way work pass = (
   passage-means tc tk ta clearance start end way work .none,
-  λ none. number ∙ ap (λ (b : Bool). cond b 20 0) (unreachable none),
+  λ none. number-is ∙ ap (λ (b : Bool). cond b 20 0) (unreachable none),
 )
   where
     graph : Graph
     graph = boatGraph tc (amended tk ta) clearance
 
+    reach : ℕ
+    reach = getD (steps graph start) end 0
+
     all-numbered : T (numbered (passageOrder tc tk ta clearance start end (length way) (length work)))
     all-numbered = unfold passageOrder checkOrder amendmentChecks tableChecks in tt
 
-    number : passageAmended tc tk ta clearance start end way work .result .number
-        ≡ cond (eqb (getD (steps (boatGraph tc (amended tk ta) clearance) start) end 0) 0) 20 0
-    number =
+    number-is : passageAmended tc tk ta clearance start end way work .result .number ≡ cond (eqb reach 0) 20 0
+    number-is =
         passage-in-order tc tk ta clearance start end way work
-        ∙ skip (passageOrder tc tk ta clearance start end (length way) (length work))
-        ((20, eqb (getD (steps (boatGraph tc (amended tk ta) clearance) start) end 0) 0) ∷ []) all-numbered pass
+        ∙ skip (passageOrder tc tk ta clearance start end (length way) (length work)) ((20, eqb reach 0) ∷ []) all-numbered pass
 
     -- a number would tell of a way
-    unreachable : ((w : List ℕ) → Way (boatGraph tc (amended tk ta) clearance) start end w → ⊥) →
-        eqb (getD (steps (boatGraph tc (amended tk ta) clearance) start) end 0) 0 ≡ true
-    unreachable none = eq-eqb (getD (steps (boatGraph tc (amended tk ta) clearance) start) end 0) 0 (zero-steps (getD (steps (boatGraph tc (amended tk ta) clearance) start) end 0) refl)
+    unreachable : ((w : List ℕ) → Way graph start end w → ⊥) → eqb reach 0 ≡ true
+    unreachable none = eq-eqb reach 0 (zero-steps reach refl)
       where
-        zero-steps : (m : ℕ) → getD (steps (boatGraph tc (amended tk ta) clearance) start) end 0 ≡ m →
-            getD (steps (boatGraph tc (amended tk ta) clearance) start) end 0 ≡ 0
+        zero-steps : (m : ℕ) → reach ≡ m → reach ≡ 0
         zero-steps zero e = e
-        zero-steps (suc m) e = let (w, y, l) = steps-exact (boatGraph tc (amended tk ta) clearance) start .there end m e in absurd (none w y)
+        zero-steps (suc m) e = let (w, y, l) = steps-exact graph start .there end m e in absurd (none w y)
 
 -- ---- what the call promises
 

@@ -12,6 +12,7 @@ use Rattle.rules.specs.Survey.{recordCount}
 use Rattle.edges.proofs.Readings.{no-refusal}
 use Rattle.edges.proofs.Surveyed.{corners-few}
 use Rattle.ways.specs.Linked.{isStep, linkedAt}
+use Rattle.ways.proofs.Checks.{and-false}
 use Rattle.ways.proofs.Linking.{LinkedTo, link-none, link-next}
 use Rattle.ways.proofs.Joined.{lowestFrom, farFrom, Step, Filled, slot-end, step-functional, step-injective}
 
@@ -25,10 +26,6 @@ module _ (wets slots : List ℕ) (n k : ℕ) (t : List ℕ) where
 
   abbrev far : ℕ
   far = farFrom slots n k
-
-  and-false : (b : Bool) → (b && false) ≡ false
-  and-false true = refl
-  and-false false = refl
 
   not-step : isStep wets slots n k ≡ false → t ≡ linkedAt wets slots n k t
   not-step e = sym (ap (λ (b : Bool). cond b (set (set t (6 * k + (3 + n)) far) (6 * far + n) k) t) e)
