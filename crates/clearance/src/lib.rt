@@ -19,7 +19,7 @@ ghost use Rattle.rules.specs.Closing.{ClosedIn};
 ghost use Rattle.rules.specs.Water.{beyondBox};
 ghost use Rattle.rules.specs.Resounding.{amended, checkAmended, enquiryAmended, drawAmended, volumeAmended};
 ghost use Rattle.rules.specs.Calendar.{periodAt, clearanceAt, drawByCalendar, InForce};
-ghost use Rattle.rules.specs.Ways.{boatGraph, passageAmended, Means};
+ghost use Rattle.rules.specs.Ways.{cornerGraph, passageAmended, Means};
 ghost use Rattle.ways.specs.Shows.{Shows, shownBy};
 ghost use Rattle.enquiry.specs.Enquiry.{lowerEnd};
 ghost use Rattle.water.specs.Corners.{referencePlace};
@@ -222,7 +222,7 @@ pub extern "C" fn clearance_way(
 ) -> Passage
     ensures exact { λ r. ⌜ Shows (passageAmended (now (cells .entry)) (now (corners .entry)) (now (amendments .entry)) clearance start end
         (now (way .entry)) (now (work .entry))) r (now (way .exit)) (now (work .exit)) ⌝ }
-    ensures means { λ r. ⌜ Means (boatGraph (now (cells .entry)) (amended (now (corners .entry)) (now (amendments .entry))) clearance) start end
+    ensures means { λ r. ⌜ Means (cornerGraph (now (cells .entry)) (amended (now (corners .entry)) (now (amendments .entry))) clearance) start end
         (now (way .entry)) (now (work .entry)) (shownBy r (now (way .exit)) (now (work .exit))) ⌝ }
 {
     ways::find(cells, corners, amendments, clearance, start, end, way, work)

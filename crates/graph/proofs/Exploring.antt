@@ -12,7 +12,7 @@ use borrow.Author.Tests.{eqb-true, eqb-false}
 use Rattle.base.specs.Lists.{bit}
 use Rattle.base.proofs.Tests.{below}
 use Rattle.base.proofs.Slices.{filled-length}
-use Rattle.rules.specs.Ways.{steps}
+use Rattle.rules.specs.Ways.{fewestSteps}
 use Rattle.graph.specs.Table.{linkAt, Within, graphIn, Frontier, reached, visited}
 use Rattle.graph.proofs.Steps.{stepped, stepped-same}
 use Rattle.graph.proofs.Searching.{Searching, reached-le, passed-over, queue-kept, found, head-done, first-turn, last-turn}
@@ -37,8 +37,8 @@ module _ (t : List ℕ) (n start : ℕ) (past : List ℕ) (few : n ≤ 4872) (wi
     pub tail-few : s .tail ≤ n
     tail-few = let a = reached-le (at (s .found)) n in let b = e .known .counted in omega arith
 
-    pub number-small : head < s .tail → at (s .found) (at (s .queue) head) ≤ 4872
-    number-small h = let a = e .known .deep head h in let b = tail-few in omega arith
+    pub rank-small : head < s .tail → at (s .found) (at (s .queue) head) ≤ 4872
+    rank-small h = let a = e .known .deep head h in let b = tail-few in omega arith
 
     pub head-inside : head < s .tail → at (s .queue) head < n
     head-inside h = e .known .corner head h
@@ -58,7 +58,7 @@ module _ (t : List ℕ) (n start : ℕ) (past : List ℕ) (few : n ≤ 4872) (wi
             absurd (omega arith)
 
     -- one link of the corner at the head is followed
-    module _ (h : head < s .tail) (small : i < 6) (k number : ℕ) (is-head : at (s .queue) head ≡ k) (next : at (s .found) k + 1 ≡ number) where
+    module _ (h : head < s .tail) (small : i < 6) (k rank : ℕ) (is-head : at (s .queue) head ≡ k) (next : at (s .found) k + 1 ≡ rank) where
       abbrev link : ℕ
       link = linkAt t k i
 
@@ -68,7 +68,7 @@ module _ (t : List ℕ) (n start : ℕ) (past : List ℕ) (few : n ≤ 4872) (wi
       abbrev after : Bool → Frontier
       after b = record {
         tail = s .tail + bit b;
-        found = set (s .found) link (cond b number (at (s .found) link));
+        found = set (s .found) link (cond b rank (at (s .found) link));
         queue = set (s .queue) (s .tail) link;
       }
 
@@ -108,20 +108,20 @@ module _ (t : List ℕ) (n start : ℕ) (past : List ℕ) (few : n ≤ 4872) (wi
           let tail-small = tail-few in
           let u = found t n start (at (s .found)) (at (s .queue)) head i (s .tail) (e .known) h small
           (let z = head-link in omega arith) (ap (at (s .found)) head-link ∙ none)
-          (at (set (s .found) link number)) (at (set (s .queue) (s .tail) link))
-          (λ x d. getD-set-other (s .found) link x number 0 (λ z. d (z ∙ sym head-link)))
-          (ap (at (set (s .found) link number)) head-link ∙ getD-set-same (s .found) link number 0 (omega arith) ∙ sym next
+          (at (set (s .found) link rank)) (at (set (s .queue) (s .tail) link))
+          (λ x d. getD-set-other (s .found) link x rank 0 (λ z. d (z ∙ sym head-link)))
+          (ap (at (set (s .found) link rank)) head-link ∙ getD-set-same (s .found) link rank 0 (omega arith) ∙ sym next
           ∙ ap (λ (x : ℕ). at (s .found) x + 1) (sym is-head))
           earlier (getD-set-same (s .queue) (s .tail) link 0 (omega arith) ∙ sym head-link) in
           let tail-grows : suc (s .tail) ≡ s .tail + 1 = omega arith in
           record {
-            known = subst (Searching t n start (at (set (s .found) link number)) (at (set (s .queue) (s .tail) link)) head (suc i)) tail-grows u;
+            known = subst (Searching t n start (at (set (s .found) link rank)) (at (set (s .queue) (s .tail) link)) head (suc i)) tail-grows u;
             queue-size = queue-stays;
-            size = length-set (s .found) link number ∙ e .size;
-            kept = drop-set-lt n (s .found) link number inside ∙ e .kept;
+            size = length-set (s .found) link rank ∙ e .size;
+            kept = drop-set-lt n (s .found) link rank inside ∙ e .kept;
           }
 
-      turn : Exploring t n start past (reached number (linkAt t k i) s) head (suc i)
+      turn : Exploring t n start past (reached rank (linkAt t k i) s) head (suc i)
       turn = go (eqb (at (s .found) link) 0) refl
         where
           go : (b : Bool) → eqb (at (s .found) (linkAt t k i)) 0 ≡ b → Exploring t n start past (after b) head (suc i)
@@ -132,16 +132,16 @@ module _ (t : List ℕ) (n start : ℕ) (past : List ℕ) (few : n ≤ 4872) (wi
       head-stays : at (set (s .queue) (s .tail) link) head ≡ k
       head-stays = earlier head h ∙ is-head
 
-      number-stays : at (reached number (linkAt t k i) s .found) k + 1 ≡ number
-      number-stays = ap (λ (x : ℕ). x + 1) (go (eqb (at (s .found) link) 0) refl (below k link) (below link k)) ∙ next
+      rank-stays : at (reached rank (linkAt t k i) s .found) k + 1 ≡ rank
+      rank-stays = ap (λ (x : ℕ). x + 1) (go (eqb (at (s .found) link) 0) refl (below k link) (below link k)) ∙ next
         where
           go : (b : Bool) → eqb (at (s .found) link) 0 ≡ b → (k < link) ⊎ (link ≤ k) → (link < k) ⊎ (k ≤ link) →
-              at (set (s .found) link (cond b number (at (s .found) link))) k ≡ at (s .found) k
-          go b f (inl a) c = getD-set-other (s .found) link k (cond b number (at (s .found) link)) 0 (λ z. omega arith)
-          go b f (inr a) (inl c) = getD-set-other (s .found) link k (cond b number (at (s .found) link)) 0 (λ z. omega arith)
+              at (set (s .found) link (cond b rank (at (s .found) link))) k ≡ at (s .found) k
+          go b f (inl a) c = getD-set-other (s .found) link k (cond b rank (at (s .found) link)) 0 (λ z. omega arith)
+          go b f (inr a) (inl c) = getD-set-other (s .found) link k (cond b rank (at (s .found) link)) 0 (λ z. omega arith)
           go true f (inr a) (inr c) =
               let z : link ≡ k = omega arith in
-              let u = e .known .numbered head h in
+              let u = e .known .ranked head h in
               let v = ap (at (s .found)) is-head in
               let w = ap (at (s .found)) z in
               let x = eqb-true (at (s .found) link) 0 f in
@@ -150,33 +150,33 @@ module _ (t : List ℕ) (n start : ℕ) (past : List ℕ) (few : n ≤ 4872) (wi
               ap (λ (l : List ℕ). at l k) (set-same (s .found) link (let w = within (6 * k + i) in let z = e .size in omega arith))
 
   -- all links of a corner, one after the other
-  pub record Visited (s : Frontier) (head k number i : ℕ) : Type 0 where
-    pub exploring : Exploring t n start past (visited t number k i s) head i
-    pub is-head : at (visited t number k i s .queue) head ≡ k
-    pub next : at (visited t number k i s .found) k + 1 ≡ number
-    pub grown : head < visited t number k i s .tail
+  pub record Visited (s : Frontier) (head k rank i : ℕ) : Type 0 where
+    pub exploring : Exploring t n start past (visited t rank k i s) head i
+    pub is-head : at (visited t rank k i s .queue) head ≡ k
+    pub next : at (visited t rank k i s .found) k + 1 ≡ rank
+    pub grown : head < visited t rank k i s .tail
 
-  module _ (s : Frontier) (head : ℕ) (e : Exploring t n start past s head 0) (h : head < s .tail) (k number : ℕ)
-      (is-head : at (s .queue) head ≡ k) (next : at (s .found) k + 1 ≡ number) where
-    links-followed : (i : ℕ) → i ≤ 6 → Visited s head k number i
+  module _ (s : Frontier) (head : ℕ) (e : Exploring t n start past s head 0) (h : head < s .tail) (k rank : ℕ)
+      (is-head : at (s .queue) head ≡ k) (next : at (s .found) k + 1 ≡ rank) where
+    links-followed : (i : ℕ) → i ≤ 6 → Visited s head k rank i
     unfolding visited
     links-followed zero a = record { exploring = e; is-head = is-head; next = next; grown = h }
     links-followed (suc i) a =
         let v = links-followed i (omega arith) in
-        let r = visited t number k i s in
+        let r = visited t rank k i s in
         record {
-          exploring = turn r head i (v .exploring) (v .grown) (omega arith) k number (v .is-head) (v .next);
-          is-head = head-stays r head i (v .exploring) (v .grown) (omega arith) k number (v .is-head) (v .next);
-          next = number-stays r head i (v .exploring) (v .grown) (omega arith) k number (v .is-head) (v .next);
+          exploring = turn r head i (v .exploring) (v .grown) (omega arith) k rank (v .is-head) (v .next);
+          is-head = head-stays r head i (v .exploring) (v .grown) (omega arith) k rank (v .is-head) (v .next);
+          next = rank-stays r head i (v .exploring) (v .grown) (omega arith) k rank (v .is-head) (v .next);
           grown = let g = v .grown in omega arith;
         }
 
     -- the corner at the head is done with
-    pub next-head : Exploring t n start past (visited t number k 6 s) (head + 1) 0
+    pub next-head : Exploring t n start past (visited t rank k 6 s) (head + 1) 0
     next-head =
         let v = links-followed 6 (omega arith) in
         let d : suc head ≡ head + 1 = omega arith in
-        let r = visited t number k 6 s in
+        let r = visited t rank k 6 s in
         record {
           known = subst (λ (x : ℕ). Searching t n start (at (r .found)) (at (r .queue)) x 0 (r .tail)) d
               (head-done t n start (at (r .found)) (at (r .queue)) head (r .tail) (v .exploring .known) (v .grown));
@@ -186,14 +186,14 @@ module _ (t : List ℕ) (n start : ℕ) (past : List ℕ) (few : n ≤ 4872) (wi
         }
 
   pub all-done : (s : Frontier) (head i : ℕ) → Exploring t n start past s head i → start < n → s .tail ≤ head →
-      s .found ≡ steps (graphIn t n) start ++ past
+      s .found ≡ fewestSteps (graphIn t n) start ++ past
   all-done s head i e a h =
       let z = e .size in
       let u = last-turn t n start (at (s .found)) (at (s .queue)) head i (s .tail) (e .known) a h (take n (s .found))
       (length-take-le n (s .found) (omega arith)) (λ k l. getD-take n (s .found) k 0 l) in
-      let v = stepped-same (graphIn t n) start (take n (s .found)) (steps (graphIn t n) start) u (stepped (graphIn t n) start) in
+      let v = stepped-same (graphIn t n) start (take n (s .found)) (fewestSteps (graphIn t n) start) u (stepped (graphIn t n) start) in
       sym (take-append-drop n (s .found)) ∙ ap (λ (l : List ℕ). l ++ drop n (s .found)) v
-      ∙ ap (λ (l : List ℕ). steps (graphIn t n) start ++ l) (e .kept)
+      ∙ ap (λ (l : List ℕ). fewestSteps (graphIn t n) start ++ l) (e .kept)
 
 -- ---- the numbers before the first turn
 
@@ -221,9 +221,9 @@ module _ (t : List ℕ) (n start : ℕ) (lent cleared : List ℕ) (few : n ≤ 4
       getD-set-other cleared start k 1 0 d ∙ ap (λ (x : List ℕ). at x k) clear
       ∙ List·getD-append (replicate n 0) (drop n lent) 0 k (let r = length-replicate {A = ℕ} n 0 in omega arith) ∙ getD-replicate n k 0 0 l
 
-  pub first-numbers : (queue : List ℕ) → length queue ≡ 4878 →
+  pub first-ranks : (queue : List ℕ) → length queue ≡ 4878 →
       Exploring t n start (drop n (set cleared start 1)) (record { tail = 1; found = set cleared start 1; queue = set queue 0 start }) 0 0
-  first-numbers queue q =
+  first-ranks queue q =
       let z = cleared-size in
       record {
         known = first-turn t n start (at (set cleared start 1)) (at (set queue 0 start)) s (getD-set-same queue 0 start 0 (omega arith))

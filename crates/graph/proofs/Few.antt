@@ -5,7 +5,7 @@ use mathlib.Core.Logic.{_⊎_, inl, inr}
 use mathlib.Core.List.{List}
 use native.Mathlib.Omega.{arith}
 use lib.ListN.{getD}
-use Rattle.rules.specs.Ways.{Graph, rounds, steps}
+use Rattle.rules.specs.Ways.{Graph, rounds, fewestSteps}
 use Rattle.graph.proofs.Walks.{walk-last}
 use Rattle.graph.proofs.Rounds.{inside, Known, Closed, reachedCount, after, stays-new}
 use Rattle.graph.proofs.Searching.{reached-few}
@@ -50,6 +50,6 @@ module _ (graph : Graph) (start k : ℕ) where
       go zero f = omega arith
       go (suc m) f = old (getD (rounds graph start n) k 0) refl (reached-before m f (after graph start n .either-way))
 
-pub steps-few : (graph : Graph) (start k : ℕ) → getD (steps graph start) k 0 ≤ graph .size
-unfolding steps
+pub steps-few : (graph : Graph) (start k : ℕ) → getD (fewestSteps graph start) k 0 ≤ graph .size
+unfolding fewestSteps
 steps-few graph start k = round-few graph start k (graph .size) refl

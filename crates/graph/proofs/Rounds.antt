@@ -13,7 +13,7 @@ use Rattle.base.proofs.Tests.{and→, →and, below, either, true→, eq→eqb,
 use Rattle.base.proofs.Lists.{In, any→in, in→any, count-in, length-count}
 use Rattle.base.proofs.Below.{get-table, length-table}
 use Rattle.base.proofs.Sums.{sum-le, sum-one, in-sum}
-use Rattle.rules.specs.Ways.{Graph, passable, reachedIn, rounds, steps}
+use Rattle.rules.specs.Ways.{Graph, passable, reachedIn, rounds, fewestSteps}
 use Rattle.graph.proofs.Walks.{Walk, walk-first, walk-last, walk-on, walk-before}
 
 -- what n rounds tell

@@ -31,7 +31,7 @@ pub record After (m x : ℕ) : Type 0 where
 pub record Searching (t : List ℕ) (n start : ℕ) (f q : ℕ → ℕ) (head i tail : ℕ) : Type 0 where
   -- the queue has each corner with a number, once
   pub corner : (x : ℕ) → x < tail → q x < n
-  pub numbered : (x : ℕ) → x < tail → 1 ≤ f (q x)
+  pub ranked : (x : ℕ) → x < tail → 1 ≤ f (q x)
   pub listed : (k : ℕ) → k < n → 1 ≤ f k → (x : ℕ) × (x < tail) × (q x ≡ k)
   pub counted : tail ≡ reached f n
   -- numbers rise along the queue, by one at most from the head on
@@ -140,7 +140,7 @@ module _ (t : List ℕ) (n start : ℕ) where
       pub passed-over : (link < n → 1 ≤ f link) → Searching t n start f q head (suc i) tail
       passed-over g = record {
         corner = known .corner;
-        numbered = known .numbered;
+        ranked = known .ranked;
         listed = known .listed;
         counted = known .counted;
         rising = known .rising;
@@ -155,17 +155,17 @@ module _ (t : List ℕ) (n start : ℕ) where
 
       -- a link that is reached now
       module _ (small : i < 6) (inside : link < n) (none : f link ≡ 0) (f' q' : ℕ → ℕ)
-          (others : (k : ℕ) → (k ≡ link → ⊥) → f' k ≡ f k) (number : f' link ≡ f (q head) + 1)
+          (others : (k : ℕ) → (k ≡ link → ⊥) → f' k ≡ f k) (rank : f' link ≡ f (q head) + 1)
           (queue : (x : ℕ) → x < tail → q' x ≡ q x) (added : q' tail ≡ link) where
         same : (k : ℕ) → 1 ≤ f k → f' k ≡ f k
         same k a = others k (λ e. let b = ap f e in omega arith)
 
         -- the places of the queue as before, and the new one
-        old-number : (x : ℕ) → x < tail → f' (q' x) ≡ f (q x)
-        old-number x a = ap f' (queue x a) ∙ same (q x) (known .numbered x a)
+        old-rank : (x : ℕ) → x < tail → f' (q' x) ≡ f (q x)
+        old-rank x a = ap f' (queue x a) ∙ same (q x) (known .ranked x a)
 
-        new-number : f' (q' tail) ≡ f (q head) + 1
-        new-number = ap f' added ∙ number
+        new-rank : f' (q' tail) ≡ f (q head) + 1
+        new-rank = ap f' added ∙ rank
 
         each : (P : ℕ → Type 0) → ((x : ℕ) → x < tail → P x) → P tail → (x : ℕ) → x < suc tail → P x
         each P a b x c = go (below x tail)
@@ -174,15 +174,15 @@ module _ (t : List ℕ) (n start : ℕ) where
             go (inl d) = a x d
             go (inr d) = let e : tail ≡ x = omega arith in subst P e b
 
-        head-number : f' (q' head) ≡ f (q head)
-        head-number = old-number head h
+        head-rank : f' (q' head) ≡ f (q head)
+        head-rank = old-rank head h
 
         corner' : (x : ℕ) → x < suc tail → q' x < n
         corner' = each (λ x. q' x < n) (λ x a. let e = queue x a in let b = known .corner x a in omega arith) (let e = added in omega arith)
 
-        numbered' : (x : ℕ) → x < suc tail → 1 ≤ f' (q' x)
-        numbered' =
-            each (λ x. 1 ≤ f' (q' x)) (λ x a. let e = old-number x a in let b = known .numbered x a in omega arith) (let e = new-number in omega arith)
+        ranked' : (x : ℕ) → x < suc tail → 1 ≤ f' (q' x)
+        ranked' =
+            each (λ x. 1 ≤ f' (q' x)) (λ x a. let e = old-rank x a in let b = known .ranked x a in omega arith) (let e = new-rank in omega arith)
 
         listed' : (k : ℕ) → k < n → 1 ≤ f' k → (x : ℕ) × (x < suc tail) × (q' x ≡ k)
         listed' k a b = go (either (eqb k link))
@@ -203,16 +203,16 @@ module _ (t : List ℕ) (n start : ℕ) where
             go : (y < tail) ⊎ (tail ≤ y) → (x < tail) ⊎ (tail ≤ x) → f' (q' x) ≤ f' (q' y)
             go (inl c) d =
                 let e : x < tail = omega arith in
-                let u = old-number x e in
-                let v = old-number y c in
+                let u = old-rank x e in
+                let v = old-rank y c in
                 let w = known .rising x y a c in
                 omega arith
             go (inr c) (inl d) =
                 let e : tail ≡ y = omega arith in
-                let u = old-number x d in
+                let u = old-rank x d in
                 let v = top x d in
                 let w = ap (λ (z : ℕ). f' (q' z)) e in
-                let r = new-number in
+                let r = new-rank in
                 omega arith
             go (inr c) (inr d) =
                 let e : x ≡ y = omega arith in
@@ -221,13 +221,13 @@ module _ (t : List ℕ) (n start : ℕ) where
 
         close' : (x : ℕ) → x < suc tail → f' (q' x) ≤ f' (q' head) + 1
         close' =
-            let e = head-number in
-            each (λ x. f' (q' x) ≤ f' (q' head) + 1) (λ x a. let u = old-number x a in let v = top x a in omega arith) (let u = new-number in omega arith)
+            let e = head-rank in
+            each (λ x. f' (q' x) ≤ f' (q' head) + 1) (λ x a. let u = old-rank x a in let v = top x a in omega arith) (let u = new-rank in omega arith)
 
         deep' : (x : ℕ) → x < suc tail → f' (q' x) ≤ x + 1
         deep' =
-            each (λ x. f' (q' x) ≤ x + 1) (λ x a. let u = old-number x a in let v = known .deep x a in omega arith)
-            (let u = new-number in let v = known .deep head h in omega arith)
+            each (λ x. f' (q' x) ≤ x + 1) (λ x a. let u = old-rank x a in let v = known .deep x a in omega arith)
+            (let u = new-rank in let v = known .deep head h in omega arith)
 
         there' : (k m : ℕ) → k < n → f' k ≡ suc m → Walk (graphIn t n) m start k
         there' k m a b = go (either (eqb k link))
@@ -236,20 +236,20 @@ module _ (t : List ℕ) (n start : ℕ) where
             go (inr d) = known .there k m a (sym (others k (borrow.Author.Tests.eqb-false k link d)) ∙ b)
             go (inl d) =
                 let e = eqb→eq k link d in
-                let u : f (q head) ≡ m = (let v = ap f' e in let w = number in omega arith) in
+                let u : f (q head) ≡ m = (let v = ap f' e in let w = rank in omega arith) in
                 subst (λ (z : ℕ). Walk (graphIn t n) m start z) (sym e) (step m u)
               where
                 step : (m : ℕ) → f (q head) ≡ m → Walk (graphIn t n) m start link
-                step zero u = let v = known .numbered head h in absurd (omega arith)
+                step zero u = let v = known .ranked head h in absurd (omega arith)
                 step (suc m) u =
                     walk-on (graphIn t n) m start (q head) link (known .there (q head) m (known .corner head h) u) (linked (q head) i small) (corner-passes link inside)
 
         pub found : Searching t n start f' q' head (suc i) (suc tail)
         found = record {
           corner = corner';
-          numbered = numbered';
+          ranked = ranked';
           listed = listed';
-          counted = let a = reached-more f f' n link inside none (let e = number in omega arith) others in let b = known .counted in omega arith;
+          counted = let a = reached-more f f' n link inside none (let e = rank in omega arith) others in let b = known .counted in omega arith;
           rising = rising';
           close = λ a. close';
           deep = deep';
@@ -260,13 +260,13 @@ module _ (t : List ℕ) (n start : ℕ) where
               let l' : linkAt t (q x) p < n = subst (λ (z : ℕ). linkAt t z p < n) e l in
               let d = known .done x p a b l' in
               let u : After (f (q x)) (f' (linkAt t (q x) p)) = subst (After (f (q x))) (sym (same (linkAt t (q x) p) (d .some))) d in
-              let v = old-number x c in
+              let v = old-rank x c in
               subst (λ (z : ℕ). After z (f' (linkAt t (q' x) p))) (sym v) (subst (λ (z : ℕ). After (f (q x)) (f' (linkAt t z p))) (sym e) u);
           partly = λ p a b l.
               let e = queue head h in
               let l' : linkAt t (q head) p < n = subst (λ (z : ℕ). linkAt t z p < n) e l in
-              let u = partly-more f' same (λ o. record { some = let w = number in omega arith; near = let w = number in omega arith }) p b l' in
-              subst (λ (z : ℕ). After z (f' (linkAt t (q' head) p))) (sym head-number)
+              let u = partly-more f' same (λ o. record { some = let w = rank in omega arith; near = let w = rank in omega arith }) p b l' in
+              subst (λ (z : ℕ). After z (f' (linkAt t (q' head) p))) (sym head-rank)
               (subst (λ (z : ℕ). After (f (q head)) (f' (linkAt t z p))) (sym e) u);
           begun = same start (let b = known .begun in omega arith) ∙ known .begun;
           upto = omega arith;
@@ -277,7 +277,7 @@ module _ (t : List ℕ) (n start : ℕ) where
       Searching t n start f q' head i tail
   queue-kept f q q' head i tail same known = record {
     corner = λ x a. let e = same x a in let b = known .corner x a in omega arith;
-    numbered = λ x a. let e = ap f (same x a) in let b = known .numbered x a in omega arith;
+    ranked = λ x a. let e = ap f (same x a) in let b = known .ranked x a in omega arith;
     listed = λ k a b. let (x, l, e) = known .listed k a b in (x, l, same x l ∙ e);
     counted = known .counted;
     rising = λ x y a b. let e = ap f (same x (omega arith)) in let g = ap f (same y b) in let c = known .rising x y a b in omega arith;
@@ -295,7 +295,7 @@ module _ (t : List ℕ) (n start : ℕ) where
   pub head-done : (f q : ℕ → ℕ) (head tail : ℕ) → Searching t n start f q head 6 tail → head < tail → Searching t n start f q (suc head) 0 tail
   head-done f q head tail known h = record {
     corner = known .corner;
-    numbered = known .numbered;
+    ranked = known .ranked;
     listed = known .listed;
     counted = known .counted;
     rising = known .rising;
@@ -319,7 +319,7 @@ module _ (t : List ℕ) (n start : ℕ) where
   pub first-turn : (f q : ℕ → ℕ) → start < n → q 0 ≡ start → f start ≡ 1 → ((k : ℕ) → k < n → (k ≡ start → ⊥) → f k ≡ 0) → Searching t n start f q 0 0 1
   first-turn f q h e one none = record {
     corner = λ x a. let u = here x a in omega arith;
-    numbered = λ x a. let u = ap f (here x a) in omega arith;
+    ranked = λ x a. let u = ap f (here x a) in omega arith;
     listed = λ k a b. listed k a b (either (eqb k start));
     counted = counted;
     rising = λ x y a b. let u = ap f (here x (omega arith)) in let v = ap f (here y b) in omega arith;
@@ -373,14 +373,14 @@ module _ (t : List ℕ) (n start : ℕ) where
       there k m a (inl b) = known .there k m b (sym (same k b) ∙ a)
       there k m a (inr b) = let u = List·getD-eq-default r 0 {n = k} (omega arith) in absurd (omega arith)
 
-      number : (k v : ℕ) → Walk (graphIn t n) v start k → After v (f k)
-      number k zero w =
+      rank : (k v : ℕ) → Walk (graphIn t n) v start k → After v (f k)
+      rank k zero w =
           let u = ap f (w .1) in
           let o = known .begun in
           record { some = omega arith; near = omega arith }
-      number k (suc v) w =
+      rank k (suc v) w =
           let (j, u, l) = walk-before (graphIn t n) v start k w in
-          go j (number j v u) (inside (graphIn t n) j (walk-last (graphIn t n) v start j u)) (any→in (λ p. eqb (linkAt t j p) k) (count 0 6) l)
+          go j (rank j v u) (inside (graphIn t n) j (walk-last (graphIn t n) v start j u)) (any→in (λ p. eqb (linkAt t j p) k) (count 0 6) l)
           (inside (graphIn t n) k (walk-last (graphIn t n) (suc v) start k w))
         where
           go : (j : ℕ) → After v (f j) → j < n → (p : ℕ) × In p (count 0 6) × T (eqb (linkAt t j p) k) → k < n → After (suc v) (f k)
@@ -399,7 +399,7 @@ module _ (t : List ℕ) (n start : ℕ) where
       least : (k v : ℕ) → Walk (graphIn t n) v start k → (1 ≤ getD r k 0) × (getD r k 0 ≤ suc v)
       least k v w =
           let b = inside (graphIn t n) k (walk-last (graphIn t n) v start k w) in
-          let a = number k v w in
+          let a = rank k v w in
           let u = same k b in
           let a1 = a .some in
           let a2 = a .near in

@@ -7,7 +7,7 @@ use native.Mathlib.Omega.{arith}
 use lib.ListN.{length, getD}
 use lib.Seq.{ext-getD}
 use Rattle.base.proofs.Tests.{below}
-use Rattle.rules.specs.Ways.{Graph, rounds, steps, Exact, StepsExact}
+use Rattle.rules.specs.Ways.{Graph, rounds, fewestSteps, ExactSteps, StepsExact}
 use Rattle.graph.proofs.Walks.{Walk, walk-way, way-walk}
 use Rattle.graph.proofs.Rounds.{After, Closed, reachedCount, few, after}
 
@@ -17,8 +17,8 @@ pub record Stepped (graph : Graph) (start : ℕ) (r : List ℕ) : Type 0 where
   pub there : (k m : ℕ) → getD r k 0 ≡ suc m → Walk graph m start k
   pub least : (k v : ℕ) → Walk graph v start k → (1 ≤ getD r k 0) × (getD r k 0 ≤ suc v)
 
-pub stepped : (graph : Graph) (start : ℕ) → Stepped graph start (steps graph start)
-unfolding steps
+pub stepped : (graph : Graph) (start : ℕ) → Stepped graph start (fewestSteps graph start)
+unfolding fewestSteps
 stepped graph start = go (after graph start (graph .size))
   where
     r : List ℕ
@@ -36,7 +36,7 @@ stepped graph start = go (after graph start (graph .size))
         least k v w c (inl h) = let t = a .known .top k in (c k v w, omega arith)
         least k v w c (inr h) = a .known .least k v w h
 
-pub exact : (graph : Graph) (start : ℕ) (r : List ℕ) → Stepped graph start r → Exact graph start r
+pub exact : (graph : Graph) (start : ℕ) (r : List ℕ) → Stepped graph start r → ExactSteps graph start r
 exact graph start r s = record {
   sized = s .sized;
   there = λ k n e. walk-way graph n start k (s .there k n e);
@@ -45,12 +45,12 @@ exact graph start r s = record {
 
 pub steps-exact : StepsExact
 unfolding StepsExact
-steps-exact graph start = exact graph start (steps graph start) (stepped graph start)
+steps-exact graph start = exact graph start (fewestSteps graph start) (stepped graph start)
 
 -- two lists that are exact are the same
 module _ (graph : Graph) (start : ℕ) where
-  number-le : (r q : List ℕ) → Stepped graph start r → Stepped graph start q → (k : ℕ) → getD r k 0 ≤ getD q k 0
-  number-le r q s t k = go (getD q k 0) refl (getD r k 0) refl
+  rank-le : (r q : List ℕ) → Stepped graph start r → Stepped graph start q → (k : ℕ) → getD r k 0 ≤ getD q k 0
+  rank-le r q s t k = go (getD q k 0) refl (getD r k 0) refl
     where
       go : (x : ℕ) → getD q k 0 ≡ x → (y : ℕ) → getD r k 0 ≡ y → getD r k 0 ≤ getD q k 0
       go (suc x) e y f = let a = s .least k x (t .there k x e) .1 in omega arith
@@ -59,4 +59,4 @@ module _ (graph : Graph) (start : ℕ) where
 
   pub stepped-same : (r q : List ℕ) → Stepped graph start r → Stepped graph start q → r ≡ q
   stepped-same r q s t =
-      ext-getD 0 r q (s .sized ∙ sym (t .sized)) (λ k h. let a = number-le r q s t k in let b = number-le q r t s k in omega arith)
+      ext-getD 0 r q (s .sized ∙ sym (t .sized)) (λ k h. let a = rank-le r q s t k in let b = rank-le q r t s k in omega arith)

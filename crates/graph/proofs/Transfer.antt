@@ -11,7 +11,7 @@ use Rattle.base.specs.Lists.{first, count}
 use Rattle.base.proofs.Tests.{and→, →and, below, eq→eqb, tests-equal, not-both}
 use Rattle.base.proofs.Lists.{In, any→in, in→any, in-count, count-in}
 use Rattle.base.proofs.Slices.{zeros}
-use Rattle.rules.specs.Ways.{Graph, passable, BothWays, steps, onward, wayOf}
+use Rattle.rules.specs.Ways.{Graph, passable, BothWays, fewestSteps, wayFrom, wayOf}
 use Rattle.graph.specs.Table.{linkAt, Links, graphIn, lowestLink, followed}
 use Rattle.graph.proofs.Walks.{Walk, walk-first, walk-last, turned}
 use Rattle.graph.proofs.Rounds.{inside}
@@ -57,9 +57,9 @@ module _ (graph : Graph) (t : List ℕ) (links : Links graph t) where
       (w .0, corner-passes j (w .1), step-by j (w .0) (w .1) (walk-first graph v (w .0) k (w .3)) (w .2), walk-by v (w .0) k (w .3))
 
   -- the steps from a wet corner
-  pub steps-of : (start : ℕ) → T (passable graph start) → steps (graphIn t (graph .size)) start ≡ steps graph start
+  pub steps-of : (start : ℕ) → T (passable graph start) → fewestSteps (graphIn t (graph .size)) start ≡ fewestSteps graph start
   steps-of start p =
-      stepped-same graph start (steps table start) (steps graph start)
+      stepped-same graph start (fewestSteps table start) (fewestSteps graph start)
       (record {
         sized = stepped table start .sized;
         there = λ k m e. walk-of m start k p (stepped table start .there k m e);
@@ -90,26 +90,26 @@ module _ (graph : Graph) (t : List ℕ) (links : Links graph t) where
             let (a, b) = and→ (eqb (getD r j 0) (suc n)) (graph .joined k j) u in
             →and (eqb (getD r j 0) (suc n)) (table .joined k j) a (step-by k j k-passes (j-passes j a) b)
 
-    followed-is : (n k : ℕ) → getD r k 0 ≡ suc n → followed t r (graph .size) (suc n) k ≡ onward graph r n k
-    unfolding onward
+    followed-is : (n k : ℕ) → getD r k 0 ≡ suc n → followed t r (graph .size) (suc n) k ≡ wayFrom graph r n k
+    unfolding wayFrom
     followed-is zero k e = refl
     followed-is (suc n) k e =
         ap (λ (j : ℕ). k ∷ followed t r (graph .size) (suc n) j) (chosen-same n k e)
         ∙ ap (λ (l : List ℕ). k ∷ l) (followed-is n (chosen graph both end r known n k) (chosen-near graph both end r known n k e .0))
 
-  pub way-of : BothWays graph → (start end n : ℕ) → getD (steps graph end) start 0 ≡ suc n → followed t (steps graph end) (graph .size) (suc n) start ≡ wayOf graph start end
+  pub way-of : BothWays graph → (start end n : ℕ) → getD (fewestSteps graph end) start 0 ≡ suc n → followed t (fewestSteps graph end) (graph .size) (suc n) start ≡ wayOf graph start end
   unfolding wayOf
   way-of both start end n e =
-      followed-is both end (steps graph end) (stepped graph end) n start e ∙ ap (λ (m : ℕ). onward graph (steps graph end) (pred m) start) (sym e)
+      followed-is both end (fewestSteps graph end) (stepped graph end) n start e ∙ ap (λ (m : ℕ). wayFrom graph (fewestSteps graph end) (pred m) start) (sym e)
 
 -- as many steps there as back
-pub as-many : (graph : Graph) → BothWays graph → (start end : ℕ) → getD (steps graph end) start 0 ≡ getD (steps graph start) end 0
+pub as-many : (graph : Graph) → BothWays graph → (start end : ℕ) → getD (fewestSteps graph end) start 0 ≡ getD (fewestSteps graph start) end 0
 as-many graph both start end = let a = le start end in let b = le end start in omega arith
   where
-    le : (x y : ℕ) → getD (steps graph y) x 0 ≤ getD (steps graph x) y 0
-    le x y = go (getD (steps graph x) y 0) refl (getD (steps graph y) x 0) refl
+    le : (x y : ℕ) → getD (fewestSteps graph y) x 0 ≤ getD (fewestSteps graph x) y 0
+    le x y = go (getD (fewestSteps graph x) y 0) refl (getD (fewestSteps graph y) x 0) refl
       where
-        go : (a : ℕ) → getD (steps graph x) y 0 ≡ a → (b : ℕ) → getD (steps graph y) x 0 ≡ b → getD (steps graph y) x 0 ≤ getD (steps graph x) y 0
+        go : (a : ℕ) → getD (fewestSteps graph x) y 0 ≡ a → (b : ℕ) → getD (fewestSteps graph y) x 0 ≡ b → getD (fewestSteps graph y) x 0 ≤ getD (fewestSteps graph x) y 0
         go (suc a) e b f = let c = stepped graph y .least x a (turned graph both a x y (stepped graph x .there y a e)) .1 in omega arith
         go zero e zero f = omega arith
         go zero e (suc b) f = let c = stepped graph x .least y b (turned graph both b y x (stepped graph y .there x b f)) .0 in absurd (omega arith)
@@ -124,9 +124,9 @@ followed-same t r q n h (suc m) k =
     ap (λ (j : ℕ). k ∷ followed t r n m j) e ∙ ap (λ (l : List ℕ). k ∷ l) (followed-same t r q n h m (lowestLink t q n k m))
 
 -- from a dry corner nothing is reached
-pub steps-dry : (graph : Graph) (start : ℕ) → passable graph start ≡ false → steps graph start ≡ replicate (graph .size) 0
+pub steps-dry : (graph : Graph) (start : ℕ) → passable graph start ≡ false → fewestSteps graph start ≡ replicate (graph .size) 0
 steps-dry graph start e =
-    stepped-same graph start (steps graph start) (replicate (graph .size) 0) (stepped graph start)
+    stepped-same graph start (fewestSteps graph start) (replicate (graph .size) 0) (stepped graph start)
     (record {
       sized = length-replicate (graph .size) 0;
       there = λ k m f. let z = zeros (graph .size) k in absurd (omega arith);

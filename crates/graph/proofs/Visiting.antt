@@ -12,11 +12,11 @@ pub one-at-most : (b : Bool) → bit b ≤ 1
 one-at-most true = omega arith
 one-at-most false = omega arith
 
-module _ (t : List ℕ) (number k : ℕ) (s : Frontier) where
-  pub none-visited : s ≡ visited t number k 0 s
+module _ (t : List ℕ) (rank k : ℕ) (s : Frontier) where
+  pub none-visited : s ≡ visited t rank k 0 s
   unfolding visited
   none-visited = refl
 
-  pub one-more : (i : ℕ) → reached number (linkAt t k i) (visited t number k i s) ≡ visited t number k (i + 1) s
+  pub one-more : (i : ℕ) → reached rank (linkAt t k i) (visited t rank k i s) ≡ visited t rank k (i + 1) s
   unfolding visited
-  one-more i = let e : suc i ≡ i + 1 = omega arith in ap (λ (j : ℕ). visited t number k j s) e
+  one-more i = let e : suc i ≡ i + 1 = omega arith in ap (λ (j : ℕ). visited t rank k j s) e

@@ -5,7 +5,7 @@ use mathlib.Core.Bool.{not}
 use mathlib.Core.List.{List, [], _∷_}
 use lib.Dec.{T}
 use lib.ListN.{length}
-use Rattle.rules.specs.Ways.{Graph, passable, Way, one, more, BothWays}
+use Rattle.rules.specs.Ways.{Graph, passable, Way, one, more, BothWays, WetEnds}
 
 -- a walk of v steps from j to m
 abbrev pub Walk : Graph → ℕ → ℕ → ℕ → Type 0
@@ -48,3 +48,7 @@ module _ (graph : Graph) where
   pub way-walk : {j m : ℕ} {w : List ℕ} → Way graph j m w → (v : ℕ) × Walk graph v j m × (length w ≡ suc v)
   way-walk {j} (one t) = (0, (t, refl), refl)
   way-walk (more {k = k} t l y) = let (v, u, e) = way-walk y in (suc v, (k, t, l, u), ap suc e)
+
+pub wet-ends : WetEnds
+unfolding WetEnds
+wet-ends graph start end w y = let (v, u, e) = way-walk graph y in (walk-first graph v start end u, walk-last graph v start end u)

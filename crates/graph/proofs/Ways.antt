@@ -9,7 +9,7 @@ use lib.Dec.{T, eqb, eqb→eq, eqb-refl, ltb, lt→ltb, ltb→lt}
 use lib.ListN.{length, getD}
 use Rattle.base.specs.Lists.{first, count}
 use Rattle.base.proofs.Tests.{and→, →and, or→, or-left, or-right, below, eq→eqb, not-both}
-use Rattle.rules.specs.Ways.{Graph, Way, one, more, lower, Best, steps, onward, wayOf, BothWays, BestShown, OneBest}
+use Rattle.rules.specs.Ways.{Graph, Way, one, more, comesFirst, Best, fewestSteps, wayFrom, wayOf, BothWays, BestShown, OneBest}
 use Rattle.graph.proofs.Walks.{Walk, walk-first, turned, way-walk}
 use Rattle.graph.proofs.Rounds.{inside}
 use Rattle.graph.proofs.Steps.{Stepped, stepped}
@@ -66,42 +66,42 @@ module _ (graph : Graph) (both : BothWays graph) (end : ℕ) (r : List ℕ) (kno
       let (a, b) = and→ (eqb (getD r (chosen n k) 0) (suc n)) (graph .joined k (chosen n k)) t in
       (eqb→eq (getD r (chosen n k) 0) (suc n) a, b)
 
-  pub onward-length : (n k : ℕ) → length (onward graph r n k) ≡ suc n
-  unfolding onward
-  onward-length zero k = refl
-  onward-length (suc n) k = ap suc (onward-length n (chosen n k))
+  pub way-from-length : (n k : ℕ) → length (wayFrom graph r n k) ≡ suc n
+  unfolding wayFrom
+  way-from-length zero k = refl
+  way-from-length (suc n) k = ap suc (way-from-length n (chosen n k))
 
-  onward-way : (n k : ℕ) → getD r k 0 ≡ suc n → Way graph k end (onward graph r n k)
-  unfolding onward
-  onward-way zero k e = let w = to-end 0 k e in subst (λ m. Way graph k m (k ∷ [])) (w .1) (one (w .0))
-  onward-way (suc n) k e =
+  way-from-way : (n k : ℕ) → getD r k 0 ≡ suc n → Way graph k end (wayFrom graph r n k)
+  unfolding wayFrom
+  way-from-way zero k e = let w = to-end 0 k e in subst (λ m. Way graph k m (k ∷ [])) (w .1) (one (w .0))
+  way-from-way (suc n) k e =
       let (a, l) = chosen-near n k e in
-      more (to-end (suc n) k e .1) l (onward-way n (chosen n k) a)
+      more (to-end (suc n) k e .1) l (way-from-way n (chosen n k) a)
 
   -- what starts lower than a way is lower
-  starts-lower : {j m : ℕ} {w : List ℕ} → Way graph j m w → (n c : ℕ) → c < j → T (lower (onward graph r n c) w)
-  unfolding onward
+  starts-lower : {j m : ℕ} {w : List ℕ} → Way graph j m w → (n c : ℕ) → c < j → T (comesFirst (wayFrom graph r n c) w)
+  unfolding wayFrom
   starts-lower {j} (one t) zero c h = or-left (ltb c j) (eqb c j && false) (lt→ltb c j h)
-  starts-lower {j} (one t) (suc n) c h = or-left (ltb c j) (eqb c j && lower (onward graph r n (chosen n c)) []) (lt→ltb c j h)
-  starts-lower {j} (more {w = w} t l y) zero c h = or-left (ltb c j) (eqb c j && lower [] w) (lt→ltb c j h)
-  starts-lower {j} (more {w = w} t l y) (suc n) c h = or-left (ltb c j) (eqb c j && lower (onward graph r n (chosen n c)) w) (lt→ltb c j h)
+  starts-lower {j} (one t) (suc n) c h = or-left (ltb c j) (eqb c j && comesFirst (wayFrom graph r n (chosen n c)) []) (lt→ltb c j h)
+  starts-lower {j} (more {w = w} t l y) zero c h = or-left (ltb c j) (eqb c j && comesFirst [] w) (lt→ltb c j h)
+  starts-lower {j} (more {w = w} t l y) (suc n) c h = or-left (ltb c j) (eqb c j && comesFirst (wayFrom graph r n (chosen n c)) w) (lt→ltb c j h)
 
   -- with the same corner before both, too
-  after-same : (k : ℕ) (w v : List ℕ) → T (lower w v) → T (lower (k ∷ w) (k ∷ v))
-  after-same k w v t = or-right (ltb k k) (eqb k k && lower w v) (→and (eqb k k) (lower w v) (eqb-refl k) t)
+  after-same : (k : ℕ) (w v : List ℕ) → T (comesFirst w v) → T (comesFirst (k ∷ w) (k ∷ v))
+  after-same k w v t = or-right (ltb k k) (eqb k k && comesFirst w v) (→and (eqb k k) (comesFirst w v) (eqb-refl k) t)
 
   -- another way with as many corners is the same, or above it
-  onward-lowest : {k m : ℕ} {v : List ℕ} → Way graph k m v → m ≡ end → (n : ℕ) → length v ≡ suc n → getD r k 0 ≡ suc n →
-      (v ≡ onward graph r n k) ⊎ T (lower (onward graph r n k) v)
-  unfolding onward
-  onward-lowest (one t) q zero h e = inl refl
-  onward-lowest (one t) q (suc n) h e = absurd (omega arith)
-  onward-lowest (more t l y) q zero h e = absurd (short y (omega arith))
+  way-from-lowest : {k m : ℕ} {v : List ℕ} → Way graph k m v → m ≡ end → (n : ℕ) → length v ≡ suc n → getD r k 0 ≡ suc n →
+      (v ≡ wayFrom graph r n k) ⊎ T (comesFirst (wayFrom graph r n k) v)
+  unfolding wayFrom
+  way-from-lowest (one t) q zero h e = inl refl
+  way-from-lowest (one t) q (suc n) h e = absurd (omega arith)
+  way-from-lowest (more t l y) q zero h e = absurd (short y (omega arith))
     where
       short : {j m : ℕ} {w : List ℕ} → Way graph j m w → length w ≡ 0 → ⊥
       short (one t) h = omega arith
       short (more t l y) h = omega arith
-  onward-lowest {k} (more {k = j} {w = w} t l y) q (suc n) h e = compare (onward-lowest y q n (omega arith)) (below (chosen n k) j)
+  way-from-lowest {k} (more {k = j} {w = w} t l y) q (suc n) h e = compare (way-from-lowest y q n (omega arith)) (below (chosen n k) j)
     where
       walk : Walk graph n j end
       walk =
@@ -110,63 +110,63 @@ module _ (graph : Graph) (both : BothWays graph) (end : ℕ) (r : List ℕ) (kno
           subst (λ (i : ℕ). Walk graph i j end) g (subst (λ (i : ℕ). Walk graph x j i) q u)
 
       Compared : ℕ → Type 0
-      Compared c = (k ∷ w ≡ k ∷ onward graph r n c) ⊎ T (lower (k ∷ onward graph r n c) (k ∷ w))
+      Compared c = (k ∷ w ≡ k ∷ wayFrom graph r n c) ⊎ T (comesFirst (k ∷ wayFrom graph r n c) (k ∷ w))
 
-      under : (w ≡ onward graph r n j) ⊎ T (lower (onward graph r n j) w) → Compared j
+      under : (w ≡ wayFrom graph r n j) ⊎ T (comesFirst (wayFrom graph r n j) w) → Compared j
       under (inl a) = inl (ap (λ (v : List ℕ). k ∷ v) a)
-      under (inr a) = inr (after-same k (onward graph r n j) w a)
+      under (inr a) = inr (after-same k (wayFrom graph r n j) w a)
 
-      compare : (getD r j 0 ≡ suc n → (w ≡ onward graph r n j) ⊎ T (lower (onward graph r n j) w)) → (chosen n k < j) ⊎ (j ≤ chosen n k) →
+      compare : (getD r j 0 ≡ suc n → (w ≡ wayFrom graph r n j) ⊎ T (comesFirst (wayFrom graph r n j) w)) → (chosen n k < j) ⊎ (j ≤ chosen n k) →
           Compared (chosen n k)
-      compare ih (inl a) = inr (after-same k (onward graph r n (chosen n k)) w (starts-lower y n (chosen n k) a))
+      compare ih (inl a) = inr (after-same k (wayFrom graph r n (chosen n k)) w (starts-lower y n (chosen n k) a))
       compare ih (inr a) =
           let b = chosen-lowest n k j l walk e .1 in
           let s : j ≡ chosen n k = omega arith in
           let f : getD r j 0 ≡ suc n = ap (λ (i : ℕ). getD r i 0) s ∙ chosen-near n k e .0 in
           subst Compared s (under (ih f))
 
-  pub onward-best : (n k : ℕ) → getD r k 0 ≡ suc n → Best graph k end (onward graph r n k)
-  onward-best n k e = record {
-    way = onward-way n k e;
+  pub way-from-best : (n k : ℕ) → getD r k 0 ≡ suc n → Best graph k end (wayFrom graph r n k)
+  way-from-best n k e = record {
+    way = way-from-way n k e;
     fewest = λ v y.
         let (x, u, f) = way-walk graph y in
         let a = known .least k x (turned graph both x k end u) .1 in
-        let b = onward-length n k in
+        let b = way-from-length n k in
         omega arith;
-    lowest = λ v y h. onward-lowest y refl n (h ∙ onward-length n k) e;
+    lowest = λ v y h. way-from-lowest y refl n (h ∙ way-from-length n k) e;
   }
 
 pub best-shown : BestShown
 unfolding BestShown wayOf
 best-shown graph both start end v y =
     let (x, u, f) = way-walk graph y in
-    go (getD (steps graph end) start 0) refl (stepped graph end .least start x (turned graph both x start end u) .0)
+    go (getD (fewestSteps graph end) start 0) refl (stepped graph end .least start x (turned graph both x start end u) .0)
   where
-    go : (m : ℕ) → getD (steps graph end) start 0 ≡ m → 1 ≤ getD (steps graph end) start 0 →
-        Best graph start end (onward graph (steps graph end) (pred (getD (steps graph end) start 0)) start)
+    go : (m : ℕ) → getD (fewestSteps graph end) start 0 ≡ m → 1 ≤ getD (fewestSteps graph end) start 0 →
+        Best graph start end (wayFrom graph (fewestSteps graph end) (pred (getD (fewestSteps graph end) start 0)) start)
     go zero e h = absurd (omega arith)
     go (suc n) e h =
-        subst (λ (i : ℕ). Best graph start end (onward graph (steps graph end) (pred i) start)) (sym e)
-        (onward-best graph both end (steps graph end) (stepped graph end) n start e)
+        subst (λ (i : ℕ). Best graph start end (wayFrom graph (fewestSteps graph end) (pred i) start)) (sym e)
+        (way-from-best graph both end (fewestSteps graph end) (stepped graph end) n start e)
 
-pub way-length : (graph : Graph) → BothWays graph → (start end n : ℕ) → getD (steps graph end) start 0 ≡ suc n → length (wayOf graph start end) ≡ suc n
+pub way-length : (graph : Graph) → BothWays graph → (start end n : ℕ) → getD (fewestSteps graph end) start 0 ≡ suc n → length (wayOf graph start end) ≡ suc n
 unfolding wayOf
 way-length graph both start end n e =
-    ap (λ (m : ℕ). length (onward graph (steps graph end) (pred m) start)) e ∙ onward-length graph both end (steps graph end) (stepped graph end) n start
+    ap (λ (m : ℕ). length (wayFrom graph (fewestSteps graph end) (pred m) start)) e ∙ way-from-length graph both end (fewestSteps graph end) (stepped graph end) n start
 
 -- ---- no other way is the best too
 
 -- of two lists one at most is lower
-not-both-lower : (w v : List ℕ) → T (lower w v) → T (lower v w) → ⊥
+not-both-lower : (w v : List ℕ) → T (comesFirst w v) → T (comesFirst v w) → ⊥
 not-both-lower [] v a b = a
 not-both-lower (j ∷ w) [] a b = a
-not-both-lower (j ∷ w) (k ∷ v) a b = go (not-both-lower w v) (or→ (ltb j k) (eqb j k && lower w v) a) (or→ (ltb k j) (eqb k j && lower v w) b)
+not-both-lower (j ∷ w) (k ∷ v) a b = go (not-both-lower w v) (or→ (ltb j k) (eqb j k && comesFirst w v) a) (or→ (ltb k j) (eqb k j && comesFirst v w) b)
   where
-    go : (T (lower w v) → T (lower v w) → ⊥) → T (ltb j k) ⊎ T (eqb j k && lower w v) → T (ltb k j) ⊎ T (eqb k j && lower v w) → ⊥
+    go : (T (comesFirst w v) → T (comesFirst v w) → ⊥) → T (ltb j k) ⊎ T (eqb j k && comesFirst w v) → T (ltb k j) ⊎ T (eqb k j && comesFirst v w) → ⊥
     go rest (inl x) (inl y) = let p = ltb→lt j k x in let q = ltb→lt k j y in omega arith
-    go rest (inl x) (inr y) = let p = ltb→lt j k x in let q = eqb→eq k j (and→ (eqb k j) (lower v w) y .0) in omega arith
-    go rest (inr x) (inl y) = let p = eqb→eq j k (and→ (eqb j k) (lower w v) x .0) in let q = ltb→lt k j y in omega arith
-    go rest (inr x) (inr y) = rest (and→ (eqb j k) (lower w v) x .1) (and→ (eqb k j) (lower v w) y .1)
+    go rest (inl x) (inr y) = let p = ltb→lt j k x in let q = eqb→eq k j (and→ (eqb k j) (comesFirst v w) y .0) in omega arith
+    go rest (inr x) (inl y) = let p = eqb→eq j k (and→ (eqb j k) (comesFirst w v) x .0) in let q = ltb→lt k j y in omega arith
+    go rest (inr x) (inr y) = rest (and→ (eqb j k) (comesFirst w v) x .1) (and→ (eqb k j) (comesFirst v w) y .1)
 
 pub one-best : OneBest
 unfolding OneBest
@@ -175,7 +175,7 @@ one-best graph start end w v a b =
     let d = b .fewest w (a .way) in
     go (a .lowest v (b .way) (omega arith)) (b .lowest w (a .way) (omega arith))
   where
-    go : (v ≡ w) ⊎ T (lower w v) → (w ≡ v) ⊎ T (lower v w) → v ≡ w
+    go : (v ≡ w) ⊎ T (comesFirst w v) → (w ≡ v) ⊎ T (comesFirst v w) → v ≡ w
     go (inl e) y = e
     go (inr x) (inl e) = sym e
     go (inr x) (inr y) = absurd (not-both-lower w v x y)

@@ -45,16 +45,16 @@ pub record Frontier : Type 0 where
 
 -- corner j is looked at: if it has no number it gets this one, and its place at the queue's end counts
 abbrev pub reached : ℕ → ℕ → Frontier → Frontier
-reached number j s = record {
+reached rank j s = record {
   tail = s .tail + bit (eqb (getD (s .found) j 0) 0);
-  found = set (s .found) j (cond (eqb (getD (s .found) j 0) 0) number (getD (s .found) j 0));
+  found = set (s .found) j (cond (eqb (getD (s .found) j 0) 0) rank (getD (s .found) j 0));
   queue = set (s .queue) (s .tail) j;
 }
 
 -- the first i links of corner k are followed
 unfoldable pub visited : List ℕ → ℕ → ℕ → ℕ → Frontier → Frontier
-visited t number k zero s = s
-visited t number k (suc i) s = reached number (linkAt t k i) (visited t number k i s)
+visited t rank k zero s = s
+visited t rank k (suc i) s = reached rank (linkAt t k i) (visited t rank k i s)
 
 -- ---- the way
 

@@ -7,7 +7,7 @@ ghost use Prim.Native.Nat.{_+_, _≤_, _<_};
 ghost use lib.Dec.{eqb, ltb};
 ghost use lib.ListN.{length, getD, take, drop, replicate};
 ghost use Rattle.base.specs.Lists.{bit};
-ghost use Rattle.rules.specs.Ways.{steps};
+ghost use Rattle.rules.specs.Ways.{fewestSteps};
 ghost use Rattle.graph.specs.Table.{Within, graphIn, reached, visited, lowestLink, followed};
 
 // No corner: what stands in the place of a link that is not there. It is above the number of every record.
@@ -17,7 +17,7 @@ pub const NONE: u16 = 4872;
 pub const LINKS: usize = 29232;
 
 // How many numbers a search has: one for each corner, and one at NONE, so that a link that is not there can be looked up as any other.
-const NUMBERS: usize = 4873;
+const RANKS: usize = 4873;
 
 // How many places the queue has: one for each corner, and six that a corner's links may be put into though nothing new is found.
 const QUEUE: usize = 4878;
@@ -54,11 +54,11 @@ fn copy(from: &[u16], count: usize, to: &mut [u16])
 }
 
 // The number of a corner that is looked at: a new one, if it had none.
-fn numbered(old: u16, number: u16) -> u16
-    ensures { λ r. ⌜ r ≡ cond (eqb old 0) number old ⌝ }
+fn ranked(old: u16, rank: u16) -> u16
+    ensures { λ r. ⌜ r ≡ cond (eqb old 0) rank old ⌝ }
 {
     if old == 0 {
-        return number;
+        return rank;
     }
     old
 }
@@ -75,14 +75,14 @@ fn newly(old: u16) -> usize
 
 // Looks at corner j: if it has no number yet it gets this one, and the place at the queue's end that it is put into counts. How many are in the queue then.
 // Nothing hangs on a test: whether a corner is new can't be foretold, and a wrong guess would cost more than all the rest.
-fn reach(found: &mut [u16], queue: &mut [u16], tail: usize, j: usize, number: u16) -> usize
+fn reach(found: &mut [u16], queue: &mut [u16], tail: usize, j: usize, rank: u16) -> usize
     requires { ⌜ (j < length (now found)) × (j < 65536) × (tail < length (now queue)) ⌝ }
     ensures { λ r. ⌜ record { tail = r; found = now (found .exit); queue = now (queue .exit) }
-        ≡ reached number j (record { tail = tail; found = now (found .entry); queue = now (queue .entry) }) ⌝ }
+        ≡ reached rank j (record { tail = tail; found = now (found .entry); queue = now (queue .entry) }) ⌝ }
 {
     let old = found[j];
     queue[tail] = j as u16;
-    found[j] = numbered(old, number);
+    found[j] = ranked(old, rank);
     tail + newly(old)
 }
 
@@ -90,7 +90,7 @@ fn reach(found: &mut [u16], queue: &mut [u16], tail: usize, j: usize, number: u1
 fn visit(
     links: &[u16],
     k: usize,
-    number: u16,
+    rank: u16,
     found: &mut [u16],
     queue: &mut [u16],
     tail: usize,
@@ -98,12 +98,12 @@ fn visit(
     requires { ⌜ (length (now links) ≡ 29232) × Within (now links) × (k < 4872) ⌝ }
     requires { ⌜ (length (now found) ≡ 4873) × (tail + 6 ≤ length (now queue)) ⌝ }
     ensures { λ r. ⌜ record { tail = r; found = now (found .exit); queue = now (queue .exit) }
-        ≡ visited (now (links .entry)) number k 6 (record { tail = tail; found = now (found .entry); queue = now (queue .entry) }) ⌝ }
+        ≡ visited (now (links .entry)) rank k 6 (record { tail = tail; found = now (found .entry); queue = now (queue .entry) }) ⌝ }
 {
     let mut end = tail;
     let mut i: usize = 0;
     while i < 6 {
-        end = reach(found, queue, end, wide(links[6 * k + i]), number);
+        end = reach(found, queue, end, wide(links[6 * k + i]), rank);
         i += 1;
     }
     end
@@ -114,7 +114,7 @@ fn visit(
 fn explore(links: &[u16], count: usize, start: usize, found: &mut [u16], queue: &mut [u16])
     requires { ⌜ (length (now links) ≡ 29232) × Within (now links) × (count ≤ 4872) × (start < count) ⌝ }
     requires { ⌜ (now found ≡ replicate 4873 1) × (length (now queue) ≡ 4878) ⌝ }
-    ensures { λ _. ⌜ now (found .exit) ≡ steps (graphIn (now (links .entry)) count) start ++ drop count (now (found .entry)) ⌝ }
+    ensures { λ _. ⌜ now (found .exit) ≡ fewestSteps (graphIn (now (links .entry)) count) start ++ drop count (now (found .entry)) ⌝ }
 {
     clear(found, count);
     found[start] = 1;
@@ -123,36 +123,36 @@ fn explore(links: &[u16], count: usize, start: usize, found: &mut [u16], queue: 
     let mut tail: usize = 1;
     while head < tail {
         let k = wide(queue[head]);
-        let number = found[k] + 1;
-        tail = visit(links, k, number, found, queue, tail);
+        let rank = found[k] + 1;
+        tail = visit(links, k, rank, found, queue, tail);
         head += 1;
     }
 }
 
 // The lower of the best corner so far and corner j, which counts only if it has this number.
-fn better(back: &[u16], best: usize, j: usize, number: u16) -> usize
+fn better(back: &[u16], best: usize, j: usize, rank: u16) -> usize
     requires { ⌜ best ≤ length (now back) ⌝ }
-    ensures { λ r. ⌜ r ≡ cond (ltb j best && eqb (getD (now (back .entry)) j 0) number) j best ⌝ }
+    ensures { λ r. ⌜ r ≡ cond (ltb j best && eqb (getD (now (back .entry)) j 0) rank) j best ⌝ }
 {
     if j >= best {
         return best;
     }
-    if back[j] != number {
+    if back[j] != rank {
         return best;
     }
     j
 }
 
 // The lowest corner joined to corner k that has this number, or 0 if none has.
-fn lowest(links: &[u16], back: &[u16], count: usize, k: usize, number: u16) -> usize
+fn lowest(links: &[u16], back: &[u16], count: usize, k: usize, rank: u16) -> usize
     requires { ⌜ (length (now links) ≡ 29232) × (count ≤ 4872) × (k < count) × (count ≤ length (now back)) ⌝ }
-    ensures { λ r. ⌜ r ≡ lowestLink (now (links .entry)) (now (back .entry)) count k number ⌝ }
+    ensures { λ r. ⌜ r ≡ lowestLink (now (links .entry)) (now (back .entry)) count k rank ⌝ }
     ensures { λ r. ⌜ r < count ⌝ }
 {
     let mut best = count;
     let mut i: usize = 0;
     while i < 6 {
-        best = better(back, best, wide(links[6 * k + i]), number);
+        best = better(back, best, wide(links[6 * k + i]), rank);
         i += 1;
     }
     if best == count {
@@ -177,24 +177,24 @@ fn follow(links: &[u16], back: &[u16], count: usize, start: usize, n: usize, way
 }
 
 // Numbers the corners: for each its fewest steps from the start plus one, or 0 if it is out of reach.
-pub fn number_corners(links: &[u16], count: usize, start: usize, numbers: &mut [u16])
-    requires { ⌜ (length (now links) ≡ 29232) × Within (now links) × (count ≤ 4872) × (start < count) × (count ≤ length (now numbers)) ⌝ }
-    ensures { λ _. ⌜ now (numbers .exit) ≡ steps (graphIn (now (links .entry)) count) start ++ drop count (now (numbers .entry)) ⌝ }
+pub fn rank_corners(links: &[u16], count: usize, start: usize, ranks: &mut [u16])
+    requires { ⌜ (length (now links) ≡ 29232) × Within (now links) × (count ≤ 4872) × (start < count) × (count ≤ length (now ranks)) ⌝ }
+    ensures { λ _. ⌜ now (ranks .exit) ≡ fewestSteps (graphIn (now (links .entry)) count) start ++ drop count (now (ranks .entry)) ⌝ }
 {
     let mut queue = [0u16; QUEUE];
-    let mut found = [1u16; NUMBERS];
+    let mut found = [1u16; RANKS];
     explore(links, count, start, &mut found, &mut queue);
-    copy(&found, count, numbers);
+    copy(&found, count, ranks);
 }
 
 // Writes a way of n corners: from the start on, always to the lowest corner joined that is one step nearer to the end, by the steps from there.
 pub fn write_way(links: &[u16], count: usize, start: usize, end: usize, n: usize, way: &mut [u16])
     requires { ⌜ (length (now links) ≡ 29232) × Within (now links) × (count ≤ 4872) × (start < count) × (end < count) ⌝ }
     requires { ⌜ (n ≤ length (now way)) × (n ≤ 4872) ⌝ }
-    ensures { λ _. ⌜ now (way .exit) ≡ followed (now (links .entry)) (steps (graphIn (now (links .entry)) count) end) count n start ++ drop n (now (way .entry)) ⌝ }
+    ensures { λ _. ⌜ now (way .exit) ≡ followed (now (links .entry)) (fewestSteps (graphIn (now (links .entry)) count) end) count n start ++ drop n (now (way .entry)) ⌝ }
 {
     let mut queue = [0u16; QUEUE];
-    let mut back = [1u16; NUMBERS];
+    let mut back = [1u16; RANKS];
     explore(links, count, end, &mut back, &mut queue);
     follow(links, &back, count, start, n, way);
 }

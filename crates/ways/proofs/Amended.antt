@@ -1,4 +1,4 @@
--- The call for one boat, step by step as it goes: refused by a check of the tables, by 7 or 8, by 18 or 19, or a way with the corner table in force.
+-- The call for one graph-of, step by step as it goes: refused by a check of the tables, by 7 or 8, by 18 or 19, or a way with the corner table in force.
 use Prim.Native.Nat.{ℕ}
 use mathlib.Core.Path.{_≡_, sym, ap, _∙_, subst}
 use mathlib.Core.Bool.{true}
@@ -14,7 +14,7 @@ use Rattle.rules.specs.declared.Passage.{Passage}
 use Rattle.octree.proofs.Accepted.{numbered, first-unlike}
 use Rattle.amendments.proofs.Calls.{refused-by-tables, refused-by-amendments, called, none-amended}
 use Rattle.ways.specs.Shows.{Shows}
-use Rattle.ways.proofs.Call.{Call, passage-of, shown, count, boat, earlier, within, answer, answerAmended}
+use Rattle.ways.proofs.Call.{Call, passage-of, shown, count, graph-of, earlier, within, answer, answerAmended}
 use Rattle.ways.proofs.Checks.{not-twenty}
 use Rattle.ways.proofs.Marks.{size-is}
 use Rattle.ways.proofs.Outcome.{asked, refused-before, refused-after, passed-before}
@@ -34,7 +34,7 @@ module _ (call : Call) where
   pub refused-first : (n : ℕ) → n ≡ firstOf (earlier call) → (n ≡ 0 → ⊥) → (r : Passage) → r ≡ passage-of n 0 →
       Shows (answer call) r (call .voyage .way) (call .voyage .work)
   unfolding passage
-  refused-first n e z = refused-before (boat call) (earlier call) no-zero (call .voyage) n e z (λ w. not-20 (sym e ∙ w))
+  refused-first n e z = refused-before (graph-of call) (earlier call) no-zero (call .voyage) n e z (λ w. not-20 (sym e ∙ w))
 
   module _ (pass : firstOf (earlier call) ≡ 0) where
     pub accepted-is : accepted (call .cells) (call .corners) (call .clearance) ≡ true
@@ -46,15 +46,15 @@ module _ (call : Call) where
         Shows (answer call) r (call .voyage .way) (call .voyage .work)
     unfolding passage
     refused-slices n e z =
-        refused-after (boat call) (earlier call) no-zero (call .voyage) pass n
+        refused-after (graph-of call) (earlier call) no-zero (call .voyage) pass n
         (subst (λ (s : ℕ). n ≡ firstOf (asked s (call .voyage))) (sym (size-is (call .cells) (call .corners) (call .clearance))) e) z
         (λ w. not-twenty (count call) (call .voyage .start) (call .voyage .end) (length (call .voyage .way)) (length (call .voyage .work)) (sym e ∙ w))
 
     -- or a way
-    pub way-found : {r : Passage} {way work : List ℕ} → Shows (shown (boat call) [] (call .voyage)) r way work → Shows (answer call) r way work
+    pub way-found : {r : Passage} {way work : List ℕ} → Shows (shown (graph-of call) [] (call .voyage)) r way work → Shows (answer call) r way work
     unfolding passage
     way-found {r} {way} {work} s =
-        subst (λ (d : Shown). Shows d r way work) (sym (passed-before (boat call) (earlier call) no-zero (call .voyage) pass)) s
+        subst (λ (d : Shown). Shows d r way work) (sym (passed-before (graph-of call) (earlier call) no-zero (call .voyage) pass)) s
 
 -- ---- as amended
 

@@ -6,7 +6,7 @@ use lib.ListN.{length}
 use lib.Ieee.{Float}
 use Rattle.rules.specs.Survey.{recordCount}
 use Rattle.rules.specs.Outputs.{checks}
-use Rattle.rules.specs.Ways.{Graph, Shown, boatGraph, shownOver, passage, passageAmended}
+use Rattle.rules.specs.Ways.{Graph, Shown, cornerGraph, shownOver, passage, passageAmended}
 use Rattle.rules.specs.declared.Passage.{Passage}
 
 -- two corners, and what the two slices hold before
@@ -41,8 +41,8 @@ pub record Call : Type 0 where
 abbrev pub count : Call → ℕ
 count call = recordCount (call .corners)
 
-abbrev pub boat : Call → Graph
-boat call = boatGraph (call .cells) (call .corners) (call .clearance)
+abbrev pub graph-of : Call → Graph
+graph-of call = cornerGraph (call .cells) (call .corners) (call .clearance)
 
 -- checks 1 to 8
 abbrev pub earlier : Call → List (ℕ × Bool)

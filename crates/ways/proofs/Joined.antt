@@ -26,9 +26,9 @@ use Rattle.edges.proofs.Find.{one-record}
 use Rattle.edges.proofs.Levels.{undivided-is}
 use Rattle.edges.proofs.Readings.{edges-law, no-refusal, lowest-read, far-read}
 use Rattle.edges.proofs.Surveyed.{rises-true, corners-few}
-use Rattle.rules.specs.Ways.{passable, BothWays}
+use Rattle.rules.specs.Ways.{passable, JoinedBothWays}
 use Rattle.graph.specs.Table.{linkAt, Links}
-use Rattle.rules.specs.Ways.{runsUp, boatGraph}
+use Rattle.rules.specs.Ways.{runsUp, cornerGraph}
 use Rattle.ways.proofs.Linking.{LinkedTo}
 use Rattle.ways.proofs.Marks.{mark-passes, passes-mark}
 
@@ -160,17 +160,17 @@ module _ {tc tk : List ℕ} {clearance : Float} {slots wets : List ℕ} (filled 
   pub step-injective : (n j k m : ℕ) → Step tk wets slots n j m → Step tk wets slots n k m → j ≡ k
   step-injective n j k m a b = one-lower n j k (a .axis) (a .lower) (b .lower) (a .level) (b .level) (a .far ∙ sym (b .far))
 
-  passes : (k : ℕ) → k < recordCount tk → getD wets k 0 ≡ 1 → T (passable (boatGraph tc tk clearance) k)
+  passes : (k : ℕ) → k < recordCount tk → getD wets k 0 ≡ 1 → T (passable (cornerGraph tc tk clearance) k)
   passes = mark-passes tc tk clearance wets (filled .marks)
 
-  passed : (k : ℕ) → T (passable (boatGraph tc tk clearance) k) → (k < recordCount tk) × (getD wets k 0 ≡ 1)
+  passed : (k : ℕ) → T (passable (cornerGraph tc tk clearance) k) → (k < recordCount tk) × (getD wets k 0 ≡ 1)
   passed = passes-mark tc tk clearance wets (filled .marks)
 
   step-joined : (n k m : ℕ) → Step tk wets slots n k m → T (runsUp (cellsOf tc) (placesOf tk) k m)
   step-joined n k m s = slot-runs n k m (s .axis) (s .lower) (s .level) (s .far)
 
-  pub linked : (t : List ℕ) (x : ℕ) → 3 * recordCount tk ≤ x → LinkedTo (recordCount tk) (Step tk wets slots) t x → Links (boatGraph tc tk clearance) t
-  unfolding boatGraph
+  pub linked : (t : List ℕ) (x : ℕ) → 3 * recordCount tk ≤ x → LinkedTo (recordCount tk) (Step tk wets slots) t x → Links (cornerGraph tc tk clearance) t
+  unfolding cornerGraph
   linked t x h l = record {
     few = let s = length-places tk in let c = corners-few tc tk refused-not in omega arith;
     room = l .room;
@@ -180,7 +180,7 @@ module _ {tc tk : List ℕ} {clearance : Float} {slots wets : List ℕ} (filled 
   }
     where
       sound : (j i : ℕ) → j < recordCount tk → i < 6 → linkAt t j i < recordCount tk →
-          T (passable (boatGraph tc tk clearance) j) × T (passable (boatGraph tc tk clearance) (linkAt t j i)) ×
+          T (passable (cornerGraph tc tk clearance) j) × T (passable (cornerGraph tc tk clearance) (linkAt t j i)) ×
           T (runsUp (cellsOf tc) (placesOf tk) j (linkAt t j i) || runsUp (cellsOf tc) (placesOf tk) (linkAt t j i) j)
       sound j i a b c = go (l .sound j i a b c .0) (l .sound j i a b c .1)
         where
@@ -188,7 +188,7 @@ module _ {tc tk : List ℕ} {clearance : Float} {slots wets : List ℕ} (filled 
           m = linkAt t j i
 
           go : (n : ℕ) → Step tk wets slots n j m ⊎ Step tk wets slots n m j →
-              T (passable (boatGraph tc tk clearance) j) × T (passable (boatGraph tc tk clearance) m) ×
+              T (passable (cornerGraph tc tk clearance) j) × T (passable (cornerGraph tc tk clearance) m) ×
               T (runsUp (cellsOf tc) (placesOf tk) j m || runsUp (cellsOf tc) (placesOf tk) m j)
           go n (inl s) = (
             passes j (s .lower) (s .lower-wet),
@@ -211,9 +211,9 @@ module _ {tc tk : List ℕ} {clearance : Float} {slots wets : List ℕ} (filled 
           (n, omega arith, l .down n k j f (omega arith) (record { axis = f; lower = c; upper = a; level = o; far = e; lower-wet = d; upper-wet = b }))
 
 -- an edge joins both ways
-pub both-ways : (tc tk : List ℕ) (clearance : Float) → BothWays (boatGraph tc tk clearance)
-unfolding boatGraph
-both-ways tc tk clearance j k t = go (or→ (runsUp (cellsOf tc) (placesOf tk) j k) (runsUp (cellsOf tc) (placesOf tk) k j) t)
+pub joined-both-ways : JoinedBothWays
+unfolding JoinedBothWays cornerGraph
+joined-both-ways tc tk clearance j k t = go (or→ (runsUp (cellsOf tc) (placesOf tk) j k) (runsUp (cellsOf tc) (placesOf tk) k j) t)
   where
     go : T (runsUp (cellsOf tc) (placesOf tk) j k) ⊎ T (runsUp (cellsOf tc) (placesOf tk) k j) →
         T (runsUp (cellsOf tc) (placesOf tk) k j || runsUp (cellsOf tc) (placesOf tk) j k)

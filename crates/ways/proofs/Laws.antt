@@ -10,24 +10,24 @@ use lib.Dec.{T, T-not, eqb, eqb→eq}
 use lib.ListN.{length, getD, take, drop}
 use lib.Ieee.{Float}
 use lib.Seq.{take-at, drop-at}
-use borrow.Author.Tests.{eq-eqb, eqb-true, eqb-false}
+use borrow.Author.Tests.{eq-eqb, eqb-true, eqb-false, ne-eqb}
 use Rattle.base.specs.Lists.{all}
-use Rattle.base.proofs.Tests.{and→, eq→eqb, not-both}
+use Rattle.base.proofs.Tests.{and→, eq→eqb, not-both, false→}
 use Rattle.base.proofs.Lists.{In, in-append}
 use Rattle.rules.specs.Outputs.{inRange, firstOf, tableChecks, soundingCheck, surveyChecks, checks, written}
 use Rattle.rules.specs.Resounding.{amended, amendmentChecks, checkOrder}
-use Rattle.rules.specs.Ways.{Graph, Way, Best, Exact, BothWays, steps, wayOf, askedChecks, wayChecks, notShown, boatGraph, shownOver, passage, passageAmended}
-use Rattle.rules.specs.Ways.{StepsExact, BestShown, Means, PassageMeans, passageOrder, PassageInOrder, NoWayExactly}
+use Rattle.rules.specs.Ways.{Graph, passable, Way, Best, ExactSteps, BothWays, fewestSteps, wayOf, askedChecks, wayChecks, notShown, cornerGraph, shownOver, passage, passageAmended}
+use Rattle.rules.specs.Ways.{StepsExact, JoinedBothWays, BestShown, Means, PassageMeans, passageOrder, PassageInOrder, NoWayExactly}
 use Rattle.octree.proofs.Accepted.{numbered, first-append, first-none, first-unlike, none-applies}
 use Rattle.amendments.proofs.Calls.{tables-pass, amended-pass}
 use Rattle.graph.proofs.Steps.{stepped, steps-exact}
 use Rattle.graph.proofs.Ways.{best-shown, way-length}
-use Rattle.graph.proofs.Transfer.{as-many}
+use Rattle.graph.proofs.Transfer.{as-many, steps-dry}
 use Rattle.rules.specs.declared.Passage.{Passage}
 use Rattle.ways.specs.Shows.{Shows, shownBy}
-use Rattle.ways.proofs.Call.{Voyage, shown, Call, boat, within, answerAmended}
+use Rattle.ways.proofs.Call.{Voyage, shown, Call, graph-of, within, answerAmended}
 use Rattle.ways.proofs.Checks.{or-true}
-use Rattle.ways.proofs.Joined.{both-ways}
+use Rattle.ways.proofs.Joined.{joined-both-ways}
 use Rattle.ways.proofs.Outcome.{numbers, corners, route, later}
 
 -- ---- which check gave a number
@@ -108,22 +108,27 @@ module _ (graph : Graph) (both : BothWays graph) (before : List (ℕ × Bool)) (
   unfolding shownOver StepsExact
   means = record {
     best = λ z. subst (λ (w : List ℕ). Best graph (voyage .start) (voyage .end) w) (sym (taken z)) (is-best (corners graph voyage) refl (reached z));
+    counted = λ z.
+        ap length (taken z) ∙ way-size (corners graph voyage) refl (reached z) ∙ sym (ap (λ (b : Bool). count-of b) (eq-eqb number 0 z));
+    uncounted = λ z. ap (λ (b : Bool). count-of b) (ne-eqb number 0 z);
     none = λ e w y. let a = steps-exact graph (voyage .start) .none-shorter (voyage .end) w y .0 in let b = unreached e in omega arith;
-    exact = λ o. subst (λ (l : List ℕ). Exact graph (voyage .start) l) (sym (front o)) (steps-exact graph (voyage .start));
+    exact = λ o. subst (λ (l : List ℕ). ExactSteps graph (voyage .start) l) (sym (front o)) (steps-exact graph (voyage .start));
+    all-dry = λ e d. front (inr e) ∙ steps-dry graph (voyage .start) (false→ (passable graph (voyage .start)) d);
     way-kept = way-rest (eqb number 0) refl;
     work-kept = work-rest (eqb number 0 || eqb number 20);
+    untouched = λ z w. (ap way-slice (ne-eqb number 0 z), λ i. cond (ne-eqb number 0 z i || ne-eqb number 20 w i) new-work (voyage .work));
   }
     where
       -- the count that is returned, and the way slice, by whether there is a way
-      counted : Bool → ℕ
-      counted b = cond b (corners graph voyage) 0
+      count-of : Bool → ℕ
+      count-of b = cond b (corners graph voyage) 0
 
       way-slice : Bool → List ℕ
       way-slice b = cond b new-way (voyage .way)
 
-      taken : number ≡ 0 → take (counted (eqb number 0)) (way-slice (eqb number 0)) ≡ route graph voyage
+      taken : number ≡ 0 → take (count-of (eqb number 0)) (way-slice (eqb number 0)) ≡ route graph voyage
       taken z =
-          ap (λ (b : Bool). take (counted b) (way-slice b)) (eq-eqb number 0 z)
+          ap (λ (b : Bool). take (count-of b) (way-slice b)) (eq-eqb number 0 z)
           ∙ take-at (route graph voyage) (drop (length (route graph voyage)) (voyage .way)) (corners graph voyage)
           (way-size (corners graph voyage) refl (reached z))
 
@@ -134,13 +139,13 @@ module _ (graph : Graph) (both : BothWays graph) (before : List (ℕ × Bool)) (
           written-then (inl z) = λ i. eq-eqb number 0 z i || eqb number 20
           written-then (inr z) = (λ i. eqb number 0 || eq-eqb number 20 z i) ∙ or-true (eqb number 0)
 
-      way-rest : (b : Bool) → eqb number 0 ≡ b → drop (counted (eqb number 0)) (way-slice (eqb number 0)) ≡ drop (counted (eqb number 0)) (voyage .way)
-      way-rest false e = ap (λ (b : Bool). drop (counted b) (way-slice b)) e ∙ sym (ap (λ (b : Bool). drop (counted b) (voyage .way)) e)
+      way-rest : (b : Bool) → eqb number 0 ≡ b → drop (count-of (eqb number 0)) (way-slice (eqb number 0)) ≡ drop (count-of (eqb number 0)) (voyage .way)
+      way-rest false e = ap (λ (b : Bool). drop (count-of b) (way-slice b)) e ∙ sym (ap (λ (b : Bool). drop (count-of b) (voyage .way)) e)
       way-rest true e =
           let l = way-size (corners graph voyage) refl (reached (eqb-true number 0 e)) in
-          ap (λ (b : Bool). drop (counted b) (way-slice b)) e
+          ap (λ (b : Bool). drop (count-of b) (way-slice b)) e
           ∙ drop-at (route graph voyage) (drop (length (route graph voyage)) (voyage .way)) (corners graph voyage) l ∙ ap (λ (m : ℕ). drop m (voyage .way)) l
-          ∙ sym (ap (λ (b : Bool). drop (counted b) (voyage .way)) e)
+          ∙ sym (ap (λ (b : Bool). drop (count-of b) (voyage .way)) e)
 
       work-rest : (b : Bool) → drop (graph .size) (cond b new-work (voyage .work)) ≡ drop (graph .size) (voyage .work)
       work-rest true = rest-work
@@ -150,10 +155,14 @@ module _ (graph : Graph) (both : BothWays graph) (before : List (ℕ × Bool)) (
 nothing-means : (graph : Graph) (start end : ℕ) (way work : List ℕ) (n : ℕ) → (n ≡ 0 → ⊥) → (n ≡ 20 → ⊥) → Means graph start end way work (notShown n way work)
 nothing-means graph start end way work n z w = record {
   best = λ e. absurd (z e);
+  counted = λ e. absurd (z e);
+  uncounted = λ e. refl;
   none = λ e. absurd (w e);
   exact = λ o. absurd (neither o);
+  all-dry = λ e. absurd (w e);
   way-kept = refl;
   work-kept = refl;
+  untouched = λ e f. (refl, refl);
 }
   where
     neither : (n ≡ 0) ⊎ (n ≡ 20) → ⊥
@@ -161,7 +170,7 @@ nothing-means graph start end way work n z w = record {
     neither (inr e) = w e
 
 pub passage-means : PassageMeans
-unfolding PassageMeans passageAmended passage
+unfolding PassageMeans passageAmended passage JoinedBothWays
 passage-means tc tk ta clearance start end way work = go (eqb (firstOf (amendmentChecks tc tk ta)) 0) refl
   where
     listed : T (numbered (checks tc (amended tk ta) clearance)) × NoTwenty (checks tc (amended tk ta) clearance)
@@ -171,13 +180,13 @@ passage-means tc tk ta clearance start end way work = go (eqb (firstOf (amendmen
     not-twenty e =
         not-both (eq→eqb (firstOf (amendmentChecks tc tk ta)) 20 e) (unfold amendmentChecks tableChecks in first-unlike 20 (amendmentChecks tc tk ta) tt tt)
 
-    go : (b : Bool) → eqb (firstOf (amendmentChecks tc tk ta)) 0 ≡ b → Means (boatGraph tc (amended tk ta) clearance) start end way work
+    go : (b : Bool) → eqb (firstOf (amendmentChecks tc tk ta)) 0 ≡ b → Means (cornerGraph tc (amended tk ta) clearance) start end way work
         (cond b (passage tc (amended tk ta) clearance start end way work) (notShown (firstOf (amendmentChecks tc tk ta)) way work))
     go true e =
-        means (boatGraph tc (amended tk ta) clearance) (both-ways tc (amended tk ta) clearance) (checks tc (amended tk ta) clearance) (listed .0) (listed .1)
+        means (cornerGraph tc (amended tk ta) clearance) (joined-both-ways tc (amended tk ta) clearance) (checks tc (amended tk ta) clearance) (listed .0) (listed .1)
         (record { start = start; end = end; way = way; work = work })
     go false e =
-        nothing-means (boatGraph tc (amended tk ta) clearance) start end way work (firstOf (amendmentChecks tc tk ta))
+        nothing-means (cornerGraph tc (amended tk ta) clearance) start end way work (firstOf (amendmentChecks tc tk ta))
         (eqb-false (firstOf (amendmentChecks tc tk ta)) 0 e) not-twenty
 
 -- ---- the order of the checks
@@ -191,14 +200,14 @@ unfolding PassageInOrder passageOrder passageAmended passage shownOver checkOrde
 passage-in-order tc tk ta clearance start end way work = go (eqb (firstOf (amendmentChecks tc tk ta)) 0) refl
   where
     asked : List (ℕ × Bool)
-    asked = askedChecks (boatGraph tc (amended tk ta) clearance .size) start end (length way) (length work)
+    asked = askedChecks (cornerGraph tc (amended tk ta) clearance .size) start end (length way) (length work)
 
     last : List (ℕ × Bool)
-    last = (20, eqb (getD (steps (boatGraph tc (amended tk ta) clearance) start) end 0) 0) ∷ []
+    last = (20, eqb (getD (fewestSteps (cornerGraph tc (amended tk ta) clearance) start) end 0) 0) ∷ []
 
     -- all that comes after the amendments' checks
     later : List (ℕ × Bool)
-    later = soundingCheck (amended tk ta) ∷ (8, not (inRange clearance)) ∷ wayChecks (boatGraph tc (amended tk ta) clearance) start end way work
+    later = soundingCheck (amended tk ta) ∷ (8, not (inRange clearance)) ∷ wayChecks (cornerGraph tc (amended tk ta) clearance) start end way work
 
     amendments-numbered : T (numbered (amendmentChecks tc tk ta))
     amendments-numbered = unfold amendmentChecks tableChecks in tt
@@ -215,12 +224,12 @@ passage-in-order tc tk ta clearance start end way work = go (eqb (firstOf (amend
 
     left : firstOf (amendmentChecks tc tk ta) ≡ 0 →
         firstOf (((tableChecks tc (amended tk ta) ++ soundingCheck (amended tk ta) ∷ []) ++ (8, not (inRange clearance)) ∷ [])
-        ++ wayChecks (boatGraph tc (amended tk ta) clearance) start end way work) ≡ firstOf later
+        ++ wayChecks (cornerGraph tc (amended tk ta) clearance) start end way work) ≡ firstOf later
     left z =
         ap firstOf (append-assoc (tableChecks tc (amended tk ta) ++ soundingCheck (amended tk ta) ∷ []) ((8, not (inRange clearance)) ∷ [])
-        (wayChecks (boatGraph tc (amended tk ta) clearance) start end way work)
+        (wayChecks (cornerGraph tc (amended tk ta) clearance) start end way work)
         ∙ append-assoc (tableChecks tc (amended tk ta)) (soundingCheck (amended tk ta) ∷ [])
-        ((8, not (inRange clearance)) ∷ wayChecks (boatGraph tc (amended tk ta) clearance) start end way work))
+        ((8, not (inRange clearance)) ∷ wayChecks (cornerGraph tc (amended tk ta) clearance) start end way work))
         ∙ skip (tableChecks tc (amended tk ta)) later tables-numbered (amended-pass tc tk ta (amended tk ta) (tables-pass tc tk ta z) refl)
 
     go : (b : Bool) → eqb (firstOf (amendmentChecks tc tk ta)) 0 ≡ b →
@@ -241,10 +250,10 @@ no-way-exactly tc tk ta clearance start end way work pass = (
 )
   where
     graph : Graph
-    graph = boatGraph tc (amended tk ta) clearance
+    graph = cornerGraph tc (amended tk ta) clearance
 
     reach : ℕ
-    reach = getD (steps graph start) end 0
+    reach = getD (fewestSteps graph start) end 0
 
     all-numbered : T (numbered (passageOrder tc tk ta clearance start end (length way) (length work)))
     all-numbered = unfold passageOrder checkOrder amendmentChecks tableChecks in tt
@@ -267,13 +276,13 @@ no-way-exactly tc tk ta clearance start end way work pass = (
 -- the result and the slices that are those of the rules mean what the request says
 pub promised : (call : Call) (amendments : List ℕ) {r : Passage} {way work : List ℕ} → Shows (answerAmended call amendments) r way work →
     Shows (answerAmended call amendments) r way work
-    × Means (boat (within call (amended (call .corners) amendments))) (call .voyage .start) (call .voyage .end) (call .voyage .way) (call .voyage .work)
+    × Means (graph-of (within call (amended (call .corners) amendments))) (call .voyage .start) (call .voyage .end) (call .voyage .way) (call .voyage .work)
     (shownBy r way work)
 unfolding PassageMeans
 promised call amendments s = (
   s,
   subst
-      (Means (boat (within call (amended (call .corners) amendments))) (call .voyage .start) (call .voyage .end) (call .voyage .way) (call .voyage .work))
+      (Means (graph-of (within call (amended (call .corners) amendments))) (call .voyage .start) (call .voyage .end) (call .voyage .way) (call .voyage .work))
       (sym (λ i. shownBy (s .result-is i) (s .way-is i) (s .work-is i)))
       (passage-means (call .cells) (call .corners) amendments (call .clearance) (call .voyage .start) (call .voyage .end) (call .voyage .way)
       (call .voyage .work)),

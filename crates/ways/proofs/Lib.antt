@@ -5,6 +5,6 @@ pub mod Joined
 pub mod Slots
 pub mod Outcome
 pub mod Checks
-pub mod Boat
+pub mod Found
 pub mod Amended
 pub mod Laws

@@ -15,10 +15,10 @@ use Rattle.rules.specs.Survey.{recordCount, cornersOf, wetAt}
 use Rattle.records.specs.Keys.{placesOf}
 use Rattle.records.proofs.Keys.{length-places}
 use Rattle.edges.specs.Tables.{placeAt, Wets}
-use Rattle.rules.specs.Ways.{passable, boatGraph}
+use Rattle.rules.specs.Ways.{passable, cornerGraph}
 
-pub size-is : (tc tk : List ℕ) (clearance : Float) → boatGraph tc tk clearance .size ≡ recordCount tk
-unfolding boatGraph
+pub size-is : (tc tk : List ℕ) (clearance : Float) → cornerGraph tc tk clearance .size ≡ recordCount tk
+unfolding cornerGraph
 size-is tc tk clearance = length-places tk
 
 module _ (tc tk : List ℕ) (clearance : Float) (wets : List ℕ) (marks : Wets tk clearance wets) where
@@ -26,8 +26,8 @@ module _ (tc tk : List ℕ) (clearance : Float) (wets : List ℕ) (marks : Wets 
   place k = placeAt (placesOf tk) k
 
   -- a corner that is marked may be passed
-  pub mark-passes : (k : ℕ) → k < recordCount tk → getD wets k 0 ≡ 1 → T (passable (boatGraph tc tk clearance) k)
-  unfolding boatGraph
+  pub mark-passes : (k : ℕ) → k < recordCount tk → getD wets k 0 ≡ 1 → T (passable (cornerGraph tc tk clearance) k)
+  unfolding cornerGraph
   mark-passes k h e =
       →and (ltb k (length (placesOf tk))) (wetAt (cornersOf tk) clearance (place k)) (lt→ltb k (length (placesOf tk)) (let s = length-places tk in omega arith))
       (go (wetAt (cornersOf tk) clearance (place k)) (sym (marks .entry k h) ∙ e))
@@ -37,17 +37,17 @@ module _ (tc tk : List ℕ) (clearance : Float) (wets : List ℕ) (marks : Wets 
       go false e = absurd (omega arith)
 
   -- and no other
-  pub passes-mark : (k : ℕ) → T (passable (boatGraph tc tk clearance) k) → (k < recordCount tk) × (getD wets k 0 ≡ 1)
-  unfolding boatGraph
+  pub passes-mark : (k : ℕ) → T (passable (cornerGraph tc tk clearance) k) → (k < recordCount tk) × (getD wets k 0 ≡ 1)
+  unfolding cornerGraph
   passes-mark k t =
       let (a, b) = and→ (ltb k (length (placesOf tk))) (wetAt (cornersOf tk) clearance (place k)) t in
       let c = ltb→lt k (length (placesOf tk)) a in
       let h : k < recordCount tk = (let s = length-places tk in omega arith) in
       (h, marks .entry k h ∙ ap bit (true→ (wetAt (cornersOf tk) clearance (place k)) b))
 
-  pub no-mark-dry : (k : ℕ) → (getD wets k 0 ≡ 1 → ⊥) → passable (boatGraph tc tk clearance) k ≡ false
-  no-mark-dry k e = go (either (passable (boatGraph tc tk clearance) k))
+  pub no-mark-dry : (k : ℕ) → (getD wets k 0 ≡ 1 → ⊥) → passable (cornerGraph tc tk clearance) k ≡ false
+  no-mark-dry k e = go (either (passable (cornerGraph tc tk clearance) k))
     where
-      go : T (passable (boatGraph tc tk clearance) k) ⊎ (passable (boatGraph tc tk clearance) k ≡ false) → passable (boatGraph tc tk clearance) k ≡ false
+      go : T (passable (cornerGraph tc tk clearance) k) ⊎ (passable (cornerGraph tc tk clearance) k ≡ false) → passable (cornerGraph tc tk clearance) k ≡ false
       go (inl t) = absurd (e (passes-mark k t .1))
       go (inr f) = f

@@ -10,7 +10,7 @@ use borrow.Author.Tests.{lt-ltb, le-ltb, eq-eqb, ne-eqb}
 use Rattle.base.proofs.Slices.{zeros}
 use Rattle.rules.specs.Outputs.{firstOf, written}
 use Rattle.octree.proofs.Accepted.{numbered, first-append}
-use Rattle.rules.specs.Ways.{Graph, passable, BothWays, steps, wayOf, askedChecks, wayChecks, shownOver}
+use Rattle.rules.specs.Ways.{Graph, passable, BothWays, fewestSteps, wayOf, askedChecks, wayChecks, shownOver}
 use Rattle.rules.specs.declared.Passage.{Passage}
 use Rattle.graph.specs.Table.{graphIn, Links, followed}
 use Rattle.graph.proofs.Walks.{walk-last}
@@ -23,7 +23,7 @@ use Rattle.ways.proofs.Call.{Voyage, Fits, shown, passage-of}
 
 -- the corners numbered from the start, the number of the end, and the way
 abbrev pub numbers : Graph → Voyage → List ℕ
-numbers graph voyage = steps graph (voyage .start)
+numbers graph voyage = fewestSteps graph (voyage .start)
 
 abbrev pub corners : Graph → Voyage → ℕ
 corners graph voyage = getD (numbers graph voyage) (voyage .end) 0
@@ -101,7 +101,7 @@ module _ {graph : Graph} {voyage : Voyage} {links : List ℕ} (ready : Ready gra
       (e ∙ ap (λ (l : List ℕ). l ++ drop (graph .size) (voyage .work)) (sym s))
 
   module _ (wet : T (passable graph (voyage .start))) (work : List ℕ)
-      (e : work ≡ steps (graphIn links (graph .size)) (voyage .start) ++ drop (graph .size) (voyage .work)) where
+      (e : work ≡ fewestSteps (graphIn links (graph .size)) (voyage .start) ++ drop (graph .size) (voyage .work)) where
     -- the number of the end, as the code finds it
     abbrev found : ℕ
     found = getD work (voyage .end) 0
@@ -130,18 +130,18 @@ module _ {graph : Graph} {voyage : Voyage} {links : List ℕ} (ready : Ready gra
     few-corners-on-way = let a = found-is in let b = steps-few graph (voyage .start) (voyage .end) in omega arith
 
     pub reached-some : (some : getD work (voyage .end) 0 ≡ 0 → ⊥) → (way : List ℕ) →
-        way ≡ followed links (steps (graphIn links (graph .size)) (voyage .end)) (graph .size) (getD work (voyage .end) 0) (voyage .start)
+        way ≡ followed links (fewestSteps (graphIn links (graph .size)) (voyage .end)) (graph .size) (getD work (voyage .end) 0) (voyage .start)
         ++ drop (getD work (voyage .end) 0) (voyage .way) →
         Shows (shown graph [] voyage) (passage-of 0 (getD work (voyage .end) 0)) way work
     reached-some some way d =
         way-shown graph (ready .fits) found (sym found-is) some (length-is found refl) way work
         (d ∙ ap (λ (l : List ℕ). l ++ drop found (voyage .way)) (way-is found refl)) work-found
       where
-        as-far : (m : ℕ) → found ≡ m → getD (steps graph (voyage .end)) (voyage .start) 0 ≡ m
+        as-far : (m : ℕ) → found ≡ m → getD (fewestSteps graph (voyage .end)) (voyage .start) 0 ≡ m
         as-far m z = as-many graph (ready .both) (voyage .start) (voyage .end) ∙ sym found-is ∙ z
 
         way-is : (m : ℕ) → found ≡ m →
-            followed links (steps (graphIn links (graph .size)) (voyage .end)) (graph .size) found (voyage .start) ≡ route graph voyage
+            followed links (fewestSteps (graphIn links (graph .size)) (voyage .end)) (graph .size) found (voyage .start) ≡ route graph voyage
         way-is zero z = absurd (some z)
         way-is (suc m) z =
             (λ i. followed links (steps-of graph links (ready .linked) (voyage .end) (end-wet some) i) (graph .size) (z i) (voyage .start))

@@ -8,7 +8,7 @@ ghost use lib.ListN.{length, replicate};
 ghost use Rattle.rules.specs.Survey.{recordCount};
 ghost use Rattle.rules.specs.Outputs.{accepted, firstOf};
 ghost use Rattle.rules.specs.Resounding.{amended};
-ghost use Rattle.rules.specs.Ways.{boatGraph, askedChecks, shownOver, passage, passageAmended, Means};
+ghost use Rattle.rules.specs.Ways.{cornerGraph, askedChecks, shownOver, passage, passageAmended, Means};
 ghost use Rattle.checks.specs.Tables.{Tables};
 ghost use Rattle.edges.specs.Tables.{lowestAt, farAt, Levelled, Wets};
 ghost use Rattle.graph.specs.Table.{Links};
@@ -61,7 +61,7 @@ fn fill_links(
     requires { ⌜ Wets (now corners) clearance (now wets) ⌝ }
     requires { ⌜ Levelled (now cells) (now corners) (now slots) ⌝ }
     requires { ⌜ now links ≡ replicate 29232 4872 ⌝ }
-    ensures { λ _. ⌜ Links (boatGraph (now (cells .entry)) (now (corners .entry)) clearance) (now (links .exit)) ⌝ }
+    ensures { λ _. ⌜ Links (cornerGraph (now (cells .entry)) (now (corners .entry)) clearance) (now (links .exit)) ⌝ }
 {
     let count = corners.len() / records::SIZE;
     let mut k: usize = 0;
@@ -92,10 +92,10 @@ fn show(
 ) -> Passage
     requires { ⌜ accepted (now cells) (now corners) (asked .clearance) ≡ true ⌝ }
     requires { ⌜ Wets (now corners) (asked .clearance) (now wets) ⌝ }
-    requires { ⌜ Links (boatGraph (now cells) (now corners) (asked .clearance)) (now links) ⌝ }
+    requires { ⌜ Links (cornerGraph (now cells) (now corners) (asked .clearance)) (now links) ⌝ }
     requires { ⌜ (asked .start < recordCount (now corners)) × (asked .end < recordCount (now corners)) ⌝ }
     requires { ⌜ (recordCount (now corners) ≤ length (now way)) × (recordCount (now corners) ≤ length (now work)) ⌝ }
-    ensures { λ r. ⌜ Shows (shownOver (boatGraph (now (cells .entry)) (now (corners .entry)) (asked .clearance)) [] (asked .start) (asked .end)
+    ensures { λ r. ⌜ Shows (shownOver (cornerGraph (now (cells .entry)) (now (corners .entry)) (asked .clearance)) [] (asked .start) (asked .end)
         (now (way .entry)) (now (work .entry))) r (now (way .exit)) (now (work .exit)) ⌝ }
 {
     let count = corners.len() / records::SIZE;
@@ -105,7 +105,7 @@ fn show(
         graph::clear(work, count);
         return refused(20);
     }
-    graph::number_corners(links, count, start, work);
+    graph::rank_corners(links, count, start, work);
     let n = work[end];
     if n == 0 {
         return refused(20);
@@ -118,7 +118,7 @@ fn show(
 }
 
 // Checks 18 and 19: the number of the first that applies, or 0.
-fn shortage(count: usize, start: u32, end: u32, way: usize, work: usize) -> u32
+fn question_refusal(count: usize, start: u32, end: u32, way: usize, work: usize) -> u32
     ensures { λ r. ⌜ r ≡ firstOf (askedChecks count start end way work) ⌝ }
 {
     if start as usize >= count {
@@ -150,7 +150,7 @@ fn find_accepted(
     requires { ⌜ accepted (now cells) (now corners) (asked .clearance) ≡ true ⌝ }
     requires { ⌜ (asked .start < recordCount (now corners)) × (asked .end < recordCount (now corners)) ⌝ }
     requires { ⌜ (recordCount (now corners) ≤ length (now way)) × (recordCount (now corners) ≤ length (now work)) ⌝ }
-    ensures { λ r. ⌜ Shows (shownOver (boatGraph (now (cells .entry)) (now (corners .entry)) (asked .clearance)) [] (asked .start) (asked .end) (now (way .entry))
+    ensures { λ r. ⌜ Shows (shownOver (cornerGraph (now (cells .entry)) (now (corners .entry)) (asked .clearance)) [] (asked .start) (asked .end) (now (way .entry))
         (now (work .entry))) r (now (way .exit)) (now (work .exit)) ⌝ }
 {
     let mut slots = [edges::table::EMPTY; 43848];
@@ -180,7 +180,7 @@ fn find_in_force(
     if number != 0 {
         return refused(number);
     }
-    let short = shortage(
+    let short = question_refusal(
         corners.len() / records::SIZE,
         asked.start,
         asked.end,
@@ -231,7 +231,7 @@ pub fn find(
 ) -> Passage
     ensures exact { λ r. ⌜ Shows (passageAmended (now (cells .entry)) (now (corners .entry)) (now (amendments .entry)) clearance start end
         (now (way .entry)) (now (work .entry))) r (now (way .exit)) (now (work .exit)) ⌝ }
-    ensures means { λ r. ⌜ Means (boatGraph (now (cells .entry)) (amended (now (corners .entry)) (now (amendments .entry))) clearance) start end
+    ensures means { λ r. ⌜ Means (cornerGraph (now (cells .entry)) (amended (now (corners .entry)) (now (amendments .entry))) clearance) start end
         (now (way .entry)) (now (work .entry)) (shownBy r (now (way .exit)) (now (work .exit))) ⌝ }
 {
     let asked = Asked {

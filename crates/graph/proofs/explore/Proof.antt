@@ -4,9 +4,9 @@ use mathlib.Core.Path.{refl, sym, ap, _∙_, subst}
 use mathlib.Core.List.{List, _++_}
 use native.Mathlib.Omega.{arith}
 use lib.ListN.{length, getD, set, drop, length-replicate}
-use Rattle.rules.specs.Ways.{steps}
+use Rattle.rules.specs.Ways.{fewestSteps}
 use Rattle.graph.specs.Table.{graphIn, Frontier}
-use Rattle.graph.proofs.Exploring.{Exploring, tail-few, number-small, head-inside, next-head, all-done, cleared-size, first-numbers, rest-kept, past-ones}
+use Rattle.graph.proofs.Exploring.{Exploring, tail-few, rank-small, head-inside, next-head, all-done, cleared-size, first-ranks, rest-kept, past-ones}
 use borrow.Author.Needs.{needs}
 use Rattle.graph.proofs.explore.Statement.{statement}
 use Rattle.graph.proofs.explore.Tie as tie
@@ -53,7 +53,7 @@ module _ (l : tie.At-loop Inv-loop μ-loop) where
     corner-small = head-inside t n (begin l .args .start) _ few (begin l .pre .0 .1) some here _ _ (l .loop .inv) h
 
     step-small : getD (l .loop .found) (getD (l .loop .queue) (l .loop .head) 0) 0 ≤ 4872
-    step-small = number-small t n (begin l .args .start) _ few (begin l .pre .0 .1) some here _ _ (l .loop .inv) h
+    step-small = rank-small t n (begin l .args .start) _ few (begin l .pre .0 .1) some here _ _ (l .loop .inv) h
 
 clear-requires : tie.Need-clear-requires Inv-loop μ-loop
 clear-requires c κs =
@@ -82,7 +82,7 @@ loop-holds : tie.Need-loop-holds Inv-loop μ-loop
 loop-holds c =
     let b = c .before .before .before .before .before .before .before in
     let a = b .args in
-    first-numbers (a .links .now) (a .count) (a .start) (a .found .now) (c .before .before .clear .last .0) (b .pre .0 .2) (b .pre .0 .3) (b .pre .1 .0)
+    first-ranks (a .links .now) (a .count) (a .start) (a .found .now) (c .before .before .clear .last .0) (b .pre .0 .2) (b .pre .0 .3) (b .pre .1 .0)
     (c .before .before .clear .ensures) (a .queue .now) (b .pre .1 .1)
 
 mul-wide : tie.Need-mul-wide Inv-loop μ-loop
@@ -94,17 +94,17 @@ slice-read-wide c = omega (arith, tail-small (c .before .before), c .before .bef
 wide-requires : tie.Need-wide-requires Inv-loop μ-loop
 wide-requires c κs = search needs
 
-mul-number : tie.Need-mul-number Inv-loop μ-loop
-mul-number c = omega (arith, few (c .before .before .before), corner-small (c .before .before .before) (c .before .before .loop-test .taken), c .wide .ensures)
+mul-rank : tie.Need-mul-rank Inv-loop μ-loop
+mul-rank c = omega (arith, few (c .before .before .before), corner-small (c .before .before .before) (c .before .before .loop-test .taken), c .wide .ensures)
 
-slice-read-number : tie.Need-slice-read-number Inv-loop μ-loop
-slice-read-number c =
+slice-read-rank : tie.Need-slice-read-rank Inv-loop μ-loop
+slice-read-rank c =
     let w = c .before in
     let l = w .before .before .before in
     omega (arith, few l, corner-small l (w .before .before .loop-test .taken), w .wide .ensures, l .loop .inv .size)
 
-add-number : tie.Need-add-number Inv-loop μ-loop
-add-number c =
+add-rank : tie.Need-add-rank Inv-loop μ-loop
+add-rank c =
     let w = c .before in
     let l = w .before .before .before in
     let e = ap (λ (k : ℕ). getD (l .loop .found) k 0) (w .wide .ensures) in
@@ -150,7 +150,7 @@ returns c =
     let b = begin l in
     let a = b .args in
     all-done (t l) (n l) (a .start) _ (few l) (b .pre .0 .1) (some l) (here l) _ _ (l .loop .inv) (b .pre .0 .3) (c .loop-test .left)
-    ∙ ap (λ (z : List ℕ). steps (graphIn (t l) (n l)) (a .start) ++ z)
+    ∙ ap (λ (z : List ℕ). fewestSteps (graphIn (t l) (n l)) (a .start) ++ z)
     (rest-kept (t l) (n l) (a .start) (a .found .now) (cleared l) (few l) (b .pre .0 .3) (b .pre .1 .0) (l .before .before .before .clear .ensures))
 
 pub explore-spec : {M : Type 1} → statement M
@@ -168,9 +168,9 @@ explore-spec =
     mul-wide
     slice-read-wide
     wide-requires
-    mul-number
-    slice-read-number
-    add-number
+    mul-rank
+    slice-read-rank
+    add-rank
     visit-requires
     add-head
     loop-less

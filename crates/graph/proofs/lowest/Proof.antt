@@ -8,10 +8,10 @@ use Rattle.graph.proofs.lowest.Statement.{statement}
 use Rattle.graph.proofs.lowest.Tie as tie
 
 abbrev Inv-loop : tie.InvT-loop
-Inv-loop links back count k number best₀ i₀ best i = Lowest links back count k number i best × (i ≤ 6)
+Inv-loop links back count k rank best₀ i₀ best i = Lowest links back count k rank i best × (i ≤ 6)
 
 abbrev μ-loop : tie.MeasureT-loop
-μ-loop links back count k number best₀ i₀ best i = 6 - i
+μ-loop links back count k rank best₀ i₀ best i = 6 - i
 
 loop-holds : tie.Need-loop-holds Inv-loop μ-loop
 loop-holds c = (lowest-none _ _ _ _ _, omega arith)
@@ -44,7 +44,7 @@ loop-again : tie.Need-loop-again Inv-loop μ-loop
 loop-again c =
     let l = c .before .before .before .before in
     let a = l .before .before .before .args in (
-      lowest-next (a .links .now) (a .back .now) (a .count) (a .k) (a .number) (l .loop .i) (l .loop .best) (c .before .wide .result) (c .better .result) (l .loop .inv .0)
+      lowest-next (a .links .now) (a .back .now) (a .count) (a .k) (a .rank) (l .loop .i) (l .loop .best) (c .before .wide .result) (c .better .result) (l .loop .inv .0)
           (omega (arith, c .before .before .before .loop-test .taken)) (c .before .wide .ensures) (c .better .ensures),
       omega (arith, c .before .before .before .loop-test .taken),
     )
@@ -55,8 +55,8 @@ returns c =
     let b = l .before .before .before in
     let a = b .args in
     let six : l .loop .i ≡ 6 = omega (arith, l .loop .inv .1, c .before .loop-test .left) in
-    let low : Lowest (a .links .now) (a .back .now) (a .count) (a .k) (a .number) 6 (l .loop .best) = subst (λ (i : ℕ). Lowest (a .links .now) (a .back .now) (a .count) (a .k) (a .number) i (l .loop .best)) six (l .loop .inv .0) in (
-      none-found (a .links .now) (a .back .now) (a .count) (a .k) (a .number) (subst (Lowest (a .links .now) (a .back .now) (a .count) (a .k) (a .number) 6) (c .if1 .taken) low),
+    let low : Lowest (a .links .now) (a .back .now) (a .count) (a .k) (a .rank) 6 (l .loop .best) = subst (λ (i : ℕ). Lowest (a .links .now) (a .back .now) (a .count) (a .k) (a .rank) i (l .loop .best)) six (l .loop .inv .0) in (
+      none-found (a .links .now) (a .back .now) (a .count) (a .k) (a .rank) (subst (Lowest (a .links .now) (a .back .now) (a .count) (a .k) (a .rank) 6) (c .if1 .taken) low),
       omega (arith, b .pre .2),
     )
 
@@ -66,8 +66,8 @@ returns-2 c =
     let b = l .before .before .before in
     let a = b .args in
     let six : l .loop .i ≡ 6 = omega (arith, l .loop .inv .1, c .before .loop-test .left) in
-    let low : Lowest (a .links .now) (a .back .now) (a .count) (a .k) (a .number) 6 (l .loop .best) = subst (λ (i : ℕ). Lowest (a .links .now) (a .back .now) (a .count) (a .k) (a .number) i (l .loop .best)) six (l .loop .inv .0) in (
-      lowest-found (a .links .now) (a .back .now) (a .count) (a .k) (a .number) (l .loop .best) low (c .if1 .left),
+    let low : Lowest (a .links .now) (a .back .now) (a .count) (a .k) (a .rank) 6 (l .loop .best) = subst (λ (i : ℕ). Lowest (a .links .now) (a .back .now) (a .count) (a .k) (a .rank) i (l .loop .best)) six (l .loop .inv .0) in (
+      lowest-found (a .links .now) (a .back .now) (a .count) (a .k) (a .rank) (l .loop .best) low (c .if1 .left),
       omega (arith, low .upto, c .if1 .left),
     )
 

@@ -23,8 +23,8 @@ mul-queue c = search needs
 slice-write-queue : tie.Need-slice-write-queue
 slice-write-queue c = search needs
 
-numbered-requires : tie.Need-numbered-requires
-numbered-requires c κs = search needs
+ranked-requires : tie.Need-ranked-requires
+ranked-requires c κs = search needs
 
 mul-found : tie.Need-mul-found
 mul-found c = search needs
@@ -51,7 +51,7 @@ returns c =
     let a = c .before .before .before .before .before .args in
     λ i. record {
       tail = a .tail + c .newly .ensures i;
-      found = set (a .found .now) (a .j) (c .before .numbered .ensures i);
+      found = set (a .found .now) (a .j) (c .before .ranked .ensures i);
       queue = set (a .queue .now) (a .tail) (a .j);
     }
 
@@ -64,7 +64,7 @@ reach-spec =
     cast-queue
     mul-queue
     slice-write-queue
-    numbered-requires
+    ranked-requires
     mul-found
     slice-write-found
     newly-requires

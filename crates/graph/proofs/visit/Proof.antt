@@ -15,18 +15,18 @@ abbrev frontier : ℕ → List ℕ → List ℕ → Frontier
 frontier tail found queue = record { tail = tail; found = found; queue = queue }
 
 abbrev Inv-loop : tie.InvT-loop
-Inv-loop links k number found₀ queue₀ tail end₀ i₀ found queue end i =
+Inv-loop links k rank found₀ queue₀ tail end₀ i₀ found queue end i =
     (i ≤ 6) × (end ≤ tail + i) × (length found ≡ 4873) × (length queue ≡ length queue₀)
-    × (frontier end found queue ≡ visited links number k i (frontier tail found₀ queue₀))
+    × (frontier end found queue ≡ visited links rank k i (frontier tail found₀ queue₀))
 
 abbrev μ-loop : tie.MeasureT-loop
-μ-loop links k number found₀ queue₀ tail end₀ i₀ found queue end i = 6 - i
+μ-loop links k rank found₀ queue₀ tail end₀ i₀ found queue end i = 6 - i
 
 loop-holds : tie.Need-loop-holds Inv-loop μ-loop
 loop-holds c =
     let b = c .before .before .before in
     let a = b .args in
-    (omega arith, omega arith, b .pre .1 .0, refl, none-visited (a .links .now) (a .number) (a .k) (frontier (a .tail) (a .found .now) (a .queue .now)))
+    (omega arith, omega arith, b .pre .1 .0, refl, none-visited (a .links .now) (a .rank) (a .k) (frontier (a .tail) (a .found .now) (a .queue .now)))
 
 mul-wide : tie.Need-mul-wide Inv-loop μ-loop
 mul-wide c = search needs
@@ -73,9 +73,9 @@ loop-again c =
       omega (arith, tail-is, v .1, one-at-most (eqb (getD (l .loop .found) (w .wide .result) 0) 0)),
       found-is ∙ length-set (l .loop .found) (w .wide .result) _ ∙ v .2,
       queue-is ∙ length-set (l .loop .queue) (l .loop .end) (w .wide .result) ∙ v .3,
-      r .reach .ensures ∙ ap (λ (j : ℕ). reached (a .number) j (frontier (l .loop .end) (l .loop .found) (l .loop .queue))) (w .wide .ensures)
-          ∙ ap (reached (a .number) (linkAt (a .links .now) (a .k) (l .loop .i))) (v .4)
-          ∙ one-more (a .links .now) (a .number) (a .k) (frontier (a .tail) (a .found .now) (a .queue .now)) (l .loop .i),
+      r .reach .ensures ∙ ap (λ (j : ℕ). reached (a .rank) j (frontier (l .loop .end) (l .loop .found) (l .loop .queue))) (w .wide .ensures)
+          ∙ ap (reached (a .rank) (linkAt (a .links .now) (a .k) (l .loop .i))) (v .4)
+          ∙ one-more (a .links .now) (a .rank) (a .k) (frontier (a .tail) (a .found .now) (a .queue .now)) (l .loop .i),
     )
 
 same-length : tie.Need-same-length Inv-loop μ-loop
@@ -89,7 +89,7 @@ returns c =
     let l = c .before in
     let a = l .before .before .before .before .args in
     let e : l .loop .i ≡ 6 = omega arith in
-    l .loop .inv .4 ∙ ap (λ (i : ℕ). visited (a .links .now) (a .number) (a .k) i (frontier (a .tail) (a .found .now) (a .queue .now))) e
+    l .loop .inv .4 ∙ ap (λ (i : ℕ). visited (a .links .now) (a .rank) (a .k) i (frontier (a .tail) (a .found .now) (a .queue .now))) e
 
 pub visit-spec : {M : Type 1} → statement M
 visit-spec =

@@ -4,7 +4,7 @@ use mathlib.Core.Path.{ap, _∙_}
 use mathlib.Core.List.{List, _++_}
 use native.Mathlib.Omega.{arith}
 use lib.ListN.{getD, drop, List·getD-append}
-use Rattle.rules.specs.Ways.{steps}
+use Rattle.rules.specs.Ways.{fewestSteps}
 use Rattle.graph.specs.Table.{graphIn}
 use Rattle.graph.proofs.Steps.{stepped}
 use Rattle.graph.proofs.Transfer.{followed-same}
@@ -38,8 +38,8 @@ returns c =
     let g = graphIn (a .links .now) (a .count) in
     f .follow .ensures
     ∙ ap (λ (l : List ℕ). l ++ drop (a .n) (a .way .now))
-    (followed-same (a .links .now) (x .explore .last .1 .1 .1 .0) (steps g (a .end)) (a .count)
-    (λ j h. ap (λ (l : List ℕ). getD l j 0) (x .explore .ensures) ∙ List·getD-append (steps g (a .end)) _ 0 j (let s = stepped g (a .end) .sized in omega arith))
+    (followed-same (a .links .now) (x .explore .last .1 .1 .1 .0) (fewestSteps g (a .end)) (a .count)
+    (λ j h. ap (λ (l : List ℕ). getD l j 0) (x .explore .ensures) ∙ List·getD-append (fewestSteps g (a .end)) _ 0 j (let s = stepped g (a .end) .sized in omega arith))
     (a .n) (a .start))
 
 pub write-way-spec : {M : Type 1} → statement M

@@ -20,7 +20,7 @@ call s = record {
 abbrev begin : tie.After-refusal → tie.Start
 begin c = c .before .before .before .before .before .before .before
 
-abbrev passed : tie.After-shortage → tie.Else1
+abbrev passed : tie.After-question-refusal → tie.Else1
 passed h = h .before
 
 refusal-requires : tie.Need-refusal-requires
@@ -35,8 +35,8 @@ returns c =
     let r = t .before in
     refused-first (call (begin r)) _ (r .refusal .ensures) (t .if1 .taken) _ (c .refused .ensures)
 
-shortage-requires : tie.Need-shortage-requires
-shortage-requires c κs = search needs
+question-refusal-requires : tie.Need-question-refusal-requires
+question-refusal-requires c κs = search needs
 
 refused-requires-2 : tie.Need-refused-requires-2
 refused-requires-2 c κs = search needs
@@ -47,7 +47,7 @@ returns-2 c =
     let h = t .before in
     let e = passed h in
     let r = e .before in
-    refused-slices (call (begin r)) (sym (r .refusal .ensures) ∙ e .if1 .left) _ (h .shortage .ensures) (t .if2 .taken) _ (c .refused2 .ensures)
+    refused-slices (call (begin r)) (sym (r .refusal .ensures) ∙ e .if1 .left) _ (h .question-refusal .ensures) (t .if2 .taken) _ (c .refused2 .ensures)
 
 find-accepted-requires : tie.Need-find-accepted-requires
 find-accepted-requires c κs =
@@ -58,7 +58,7 @@ find-accepted-requires c κs =
     let s = begin r in
     let a = s .args in
     let (is-start, is-end, way-fits, work-fits) =
-    neither (count (call s)) (a .asked .start) (a .asked .end) (length (a .way .now)) (length (a .work .now)) (sym (h .shortage .ensures) ∙ o .if2 .left) in
+    neither (count (call s)) (a .asked .start) (a .asked .end) (length (a .way .now)) (length (a .work .now)) (sym (h .question-refusal .ensures) ∙ o .if2 .left) in
     (s .pre, (accepted-is (call s) (sym (r .refusal .ensures) ∙ e .if1 .left), ((is-start, is-end), (way-fits, work-fits))))
 
 same-length : tie.Need-same-length
@@ -81,7 +81,7 @@ find-in-force-spec =
     refusal-requires
     refused-requires
     returns
-    shortage-requires
+    question-refusal-requires
     refused-requires-2
     returns-2
     find-accepted-requires

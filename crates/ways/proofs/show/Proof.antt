@@ -4,12 +4,12 @@ use mathlib.Core.Path.{ap, _∙_}
 use mathlib.Core.List.{List, _++_}
 use native.Mathlib.Omega.{arith}
 use lib.ListN.{drop}
-use Rattle.rules.specs.Ways.{steps}
+use Rattle.rules.specs.Ways.{fewestSteps}
 use Rattle.edges.proofs.Readings.{no-refusal}
 use Rattle.edges.proofs.Surveyed.{corners-few}
 use Rattle.graph.specs.Table.{graphIn, followed}
 use Rattle.ways.proofs.Call.{Call, count}
-use Rattle.ways.proofs.Boat.{Charted, Numbered, boat-dry, boat-none, boat-few, boat-some}
+use Rattle.ways.proofs.Found.{Charted, Numbered, found-dry, found-none, found-few, found-some}
 use borrow.Author.Needs.{needs}
 use Rattle.ways.proofs.show.Statement.{statement}
 use Rattle.ways.proofs.show.Tie as tie
@@ -37,21 +37,21 @@ few s =
 abbrev begin : tie.After-shared-slice-known5 → tie.Start
 begin c = c .before .before .before .before .before .before .before .before .before
 
-abbrev marked : tie.After-number-corners → tie.Else1
+abbrev marked : tie.After-rank-corners → tie.Else1
 marked x = x .before .before
 
-abbrev asked : tie.After-number-corners → tie.Start
+abbrev asked : tie.After-rank-corners → tie.Start
 asked x = begin (marked x .before)
 
 -- the way slice with a way of n corners
 abbrev onwards : tie.Start → ℕ → List ℕ
 onwards s n =
-    followed (s .args .links .now) (steps (graphIn (s .args .links .now) (count (call s))) (s .args .asked .end)) (count (call s)) n (s .args .asked .start)
+    followed (s .args .links .now) (fewestSteps (graphIn (s .args .links .now) (count (call s))) (s .args .asked .end)) (count (call s)) n (s .args .asked .start)
     ++ drop n (s .args .way .now)
 
-numbered : (x : tie.After-number-corners) →
-    Numbered (call (asked x)) (asked x .args .wets .now) (asked x .args .links .now) (x .number-corners .last .1 .1 .1 .0)
-numbered x = record { charted = charted (asked x); wet = marked x .if1 .left; numbers = x .number-corners .ensures }
+numbered : (x : tie.After-rank-corners) →
+    Numbered (call (asked x)) (asked x .args .wets .now) (asked x .args .links .now) (x .rank-corners .last .1 .1 .1 .0)
+numbered x = record { charted = charted (asked x); wet = marked x .if1 .left; numbers = x .rank-corners .ensures }
 
 cast-start : tie.Need-cast-start
 cast-start c = search needs
@@ -77,10 +77,10 @@ returns : tie.Need-returns
 returns c =
     let k = c .before .before .before in
     let t = k .before .before in
-    boat-dry (charted (begin (t .before))) (t .if1 .taken) _ (c .refused .ensures) _ (k .clear .ensures)
+    found-dry (charted (begin (t .before))) (t .if1 .taken) _ (c .refused .ensures) _ (k .clear .ensures)
 
-number-corners-requires : tie.Need-number-corners-requires
-number-corners-requires c κs =
+rank-corners-requires : tie.Need-rank-corners-requires
+rank-corners-requires c κs =
     let s = begin (c .before .before) in
     let h = charted s in
     (h .linked .room, h .linked .within, few s, h .fits .is-start, h .fits .work-fits)
@@ -101,7 +101,7 @@ returns-2 : tie.Need-returns-2
 returns-2 c =
     let t = c .before in
     let x = t .before .before .before .before in
-    boat-none (numbered x) (t .if2 .taken) _ (c .refused2 .ensures)
+    found-none (numbered x) (t .if2 .taken) _ (c .refused2 .ensures)
 
 wide-requires : tie.Need-wide-requires
 wide-requires c κs = search needs
@@ -112,7 +112,7 @@ write-way-requires c κs =
     let x = w .before .before .before .before .before in
     let s = asked x in
     let h = charted s in
-    let n = boat-few (numbered x) in (
+    let n = found-few (numbered x) in (
       (h .linked .room, h .linked .within, few s, h .fits .is-start, h .fits .is-end),
       (omega (arith, n, w .wide .ensures, h .fits .way-fits), omega (arith, n, w .wide .ensures, few s)),
     )
@@ -120,7 +120,7 @@ write-way-requires c κs =
 cast-t26 : tie.Need-cast-t26
 cast-t26 c =
     let x = c .before .before .before .before .before .before .before .before .before in
-    omega (arith, boat-few (numbered x), few (asked x))
+    omega (arith, found-few (numbered x), few (asked x))
 
 same-length-3 : tie.Need-same-length-3
 same-length-3 c = search needs
@@ -134,7 +134,7 @@ returns-3 c =
     let w = g .before .before in
     let z = w .before in
     let x = z .before .before .before .before in
-    boat-some (numbered x) (z .if2 .left) _ (g .write-way .ensures ∙ ap (onwards (asked x)) (w .wide .ensures))
+    found-some (numbered x) (z .if2 .left) _ (g .write-way .ensures ∙ ap (onwards (asked x)) (w .wide .ensures))
 
 pub show-spec : {M : Type 1} → statement M
 show-spec =
@@ -147,7 +147,7 @@ show-spec =
     refused-requires
     same-length
     returns
-    number-corners-requires
+    rank-corners-requires
     mul-n
     slice-read-n
     refused-requires-2

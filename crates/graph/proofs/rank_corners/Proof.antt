@@ -4,12 +4,12 @@ use mathlib.Core.List.{List, _++_}
 use Prim.Native.Nat.{ℕ}
 use lib.ListN.{take, drop}
 use lib.Seq.{take-at}
-use Rattle.rules.specs.Ways.{steps}
+use Rattle.rules.specs.Ways.{fewestSteps}
 use Rattle.graph.specs.Table.{graphIn}
 use Rattle.graph.proofs.Steps.{stepped}
 use borrow.Author.Needs.{needs}
-use Rattle.graph.proofs.number_corners.Statement.{statement}
-use Rattle.graph.proofs.number_corners.Tie as tie
+use Rattle.graph.proofs.rank_corners.Statement.{statement}
+use Rattle.graph.proofs.rank_corners.Tie as tie
 
 slice-aggregate-explore : tie.Need-slice-aggregate-explore
 slice-aggregate-explore c = search needs
@@ -35,11 +35,11 @@ returns c =
     let x = k .before .before .before .before .before in
     let a = c .before .before .before .before .before .before .before .before .before .before .before .before .args in
     let g = graphIn (a .links .now) (a .count) in
-    k .copy .ensures ∙ ap (λ (l : List ℕ). take (a .count) l ++ drop (a .count) (a .numbers .now)) (x .explore .ensures)
-    ∙ ap (λ (l : List ℕ). l ++ drop (a .count) (a .numbers .now)) (take-at (steps g (a .start)) _ (a .count) (stepped g (a .start) .sized))
+    k .copy .ensures ∙ ap (λ (l : List ℕ). take (a .count) l ++ drop (a .count) (a .ranks .now)) (x .explore .ensures)
+    ∙ ap (λ (l : List ℕ). l ++ drop (a .count) (a .ranks .now)) (take-at (fewestSteps g (a .start)) _ (a .count) (stepped g (a .start) .sized))
 
-pub number-corners-spec : {M : Type 1} → statement M
-number-corners-spec =
+pub rank-corners-spec : {M : Type 1} → statement M
+rank-corners-spec =
     tie.close
     (tie.spec
     slice-aggregate-explore
