@@ -208,7 +208,7 @@ pub extern "C" fn clearance_volume(
     )
 }
 
-// Shows a way between two corners of a survey, each by its record number, over corners that are wet at a clearance.
+// Shows the way with the fewest steps between two corners of a survey, as amended, each by its record number, over corners that are wet at a clearance.
 #[no_mangle]
 pub extern "C" fn clearance_way(
     cells: &[u8],

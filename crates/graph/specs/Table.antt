@@ -3,8 +3,8 @@
 --     corner:        0                  1                  2
 --     links:   [ x y z X Y Z ]    [ x y z X Y Z ]    [ x y z X Y Z ]  ..
 --
--- For each corner six places: the corners at the other ends of its undivided edges, down and up the axes, if both ends are wet. A place without such an edge has
--- 4,872, which is no corner.
+-- For each corner six places: the corners at the other ends of its undivided edges, down and up the axes, if both ends are wet. A place without such an edge
+-- has 4,872, which is no corner. A corner's rank is its fewest steps plus one, from where a search begins.
 use Prim.Native.Nat.{ℕ, zero, suc, _+_, _*_, _<_, _≤_}
 use mathlib.Core.Path.{_≡_}
 use mathlib.Core.Bool.{true, _&&_, cond}
@@ -37,13 +37,13 @@ graphIn t n = record { size = n; wet = λ k. true; joined = λ j k. any (λ i. e
 
 -- ---- the search
 
--- The search as it stands: how many corners are in the queue, the number of each corner, 0 if it has none yet, and the queue.
+-- The search as it stands: how many corners are in the queue, the rank of each corner, 0 if it has none yet, and the queue.
 pub record Frontier : Type 0 where
   pub tail : ℕ
   pub found : List ℕ
   pub queue : List ℕ
 
--- corner j is looked at: if it has no number it gets this one, and its place at the queue's end counts
+-- corner j is looked at: if it has no rank it gets this one, and its place at the queue's end counts
 abbrev pub reached : ℕ → ℕ → Frontier → Frontier
 reached rank j s = record {
   tail = s .tail + bit (eqb (getD (s .found) j 0) 0);
@@ -58,11 +58,11 @@ visited t rank k (suc i) s = reached rank (linkAt t k i) (visited t rank k i s)
 
 -- ---- the way
 
--- the lowest of n corners that is joined to corner k, and to which r gives the number m; 0 where there is none
+-- of n corners that of lowest record number that is joined to corner k, and to which r gives the rank m; 0 where there is none
 abbrev pub lowestLink : List ℕ → List ℕ → ℕ → ℕ → ℕ → ℕ
 lowestLink t r n k m = first (λ j. eqb (getD r j 0) m && graphIn t n .joined k j) 0 (count 0 n)
 
--- m corners from k on, each the lowest joined to the one before with a number lower by one: m, m - 1, down to 1
+-- m corners from k on, each that of lowest record number that is joined to the one before and has a rank lower by one: m, m - 1, down to 1
 abbrev pub followed : List ℕ → List ℕ → ℕ → ℕ → ℕ → List ℕ
 followed t r n zero k = []
 followed t r n (suc m) k = k ∷ followed t r n m (lowestLink t r n k m)

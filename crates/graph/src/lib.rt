@@ -1,5 +1,5 @@
 // The search for ways over the corners of a survey: document 02, request 8. It reads a table of six links for each corner, and knows nothing of cells or
-// soundings. Uses base and rules.
+// soundings. A corner's rank is its fewest steps plus one, from where a search begins; 0 while it has none. Uses base and rules.
 ghost use mathlib.Core.Path.{_≡_};
 ghost use mathlib.Core.Bool.{_&&_, cond};
 ghost use mathlib.Core.List.{_++_};
@@ -10,16 +10,16 @@ ghost use Rattle.base.specs.Lists.{bit};
 ghost use Rattle.rules.specs.Ways.{fewestSteps};
 ghost use Rattle.graph.specs.Table.{Within, graphIn, reached, visited, lowestLink, followed};
 
-// No corner: what stands in the place of a link that is not there. It is above the number of every record.
+// No corner: what stands in the place of a link that is not there. It is above every record number.
 pub const NONE: u16 = 4872;
 
 // How many places the table of links has: six for each of as many corners as there can be.
 pub const LINKS: usize = 29232;
 
-// How many numbers a search has: one for each corner, and one at NONE, so that a link that is not there can be looked up as any other.
+// How many ranks a search keeps: one for each corner, and one at NONE, so that a link that is not there can be looked up as any other.
 const RANKS: usize = 4873;
 
-// How many places the queue has: one for each corner, and six that a corner's links may be put into though nothing new is found.
+// How many places the queue has: one for each corner, and six more, which `visit` asks for before it knows whether any link leads to a new corner.
 const QUEUE: usize = 4878;
 
 // A number of a table as an index.
@@ -53,7 +53,7 @@ fn copy(from: &[u16], count: usize, to: &mut [u16])
     }
 }
 
-// The number of a corner that is looked at: a new one, if it had none.
+// The rank of a corner that is looked at: this one, if it had none.
 fn ranked(old: u16, rank: u16) -> u16
     ensures { λ r. ⌜ r ≡ cond (eqb old 0) rank old ⌝ }
 {
@@ -63,7 +63,7 @@ fn ranked(old: u16, rank: u16) -> u16
     old
 }
 
-// How many corners are new, of one with this number.
+// How many corners are new, of one with this rank before.
 fn newly(old: u16) -> usize
     ensures { λ r. ⌜ r ≡ bit (eqb old 0) ⌝ }
 {
@@ -73,8 +73,8 @@ fn newly(old: u16) -> usize
     0
 }
 
-// Looks at corner j: if it has no number yet it gets this one, and the place at the queue's end that it is put into counts. How many are in the queue then.
-// Nothing hangs on a test: whether a corner is new can't be foretold, and a wrong guess would cost more than all the rest.
+// Looks at corner j: if it has no rank yet it gets this one, and the place at the queue's end that it is put into counts. How many are in the queue then.
+// Both choices are meant to compile without a jump: whether a corner is new can't be foretold, and a wrong guess would cost more than all the rest.
 fn reach(found: &mut [u16], queue: &mut [u16], tail: usize, j: usize, rank: u16) -> usize
     requires { ⌜ (j < length (now found)) × (j < 65536) × (tail < length (now queue)) ⌝ }
     ensures { λ r. ⌜ record { tail = r; found = now (found .exit); queue = now (queue .exit) }
@@ -109,7 +109,7 @@ fn visit(
     end
 }
 
-// The fewest steps from a corner to each that can be reached from it, plus one, and 0 for the others: breadth first. All numbers are 1 before, so that what is
+// The fewest steps from a corner to each that can be reached from it, plus one, and 0 for the others: breadth first. All ranks are 1 before, so that what is
 // past the corners is never new.
 fn explore(links: &[u16], count: usize, start: usize, found: &mut [u16], queue: &mut [u16])
     requires { ⌜ (length (now links) ≡ 29232) × Within (now links) × (count ≤ 4872) × (start < count) ⌝ }
@@ -129,7 +129,7 @@ fn explore(links: &[u16], count: usize, start: usize, found: &mut [u16], queue: 
     }
 }
 
-// The lower of the best corner so far and corner j, which counts only if it has this number.
+// The lower record number of the best corner so far and corner j, which counts only if it has this rank.
 fn better(back: &[u16], best: usize, j: usize, rank: u16) -> usize
     requires { ⌜ best ≤ length (now back) ⌝ }
     ensures { λ r. ⌜ r ≡ cond (ltb j best && eqb (getD (now (back .entry)) j 0) rank) j best ⌝ }
@@ -143,7 +143,7 @@ fn better(back: &[u16], best: usize, j: usize, rank: u16) -> usize
     j
 }
 
-// The lowest corner joined to corner k that has this number, or 0 if none has.
+// The corner of lowest record number that is joined to corner k and has this rank, or 0 if none has.
 fn lowest(links: &[u16], back: &[u16], count: usize, k: usize, rank: u16) -> usize
     requires { ⌜ (length (now links) ≡ 29232) × (count ≤ 4872) × (k < count) × (count ≤ length (now back)) ⌝ }
     ensures { λ r. ⌜ r ≡ lowestLink (now (links .entry)) (now (back .entry)) count k rank ⌝ }
@@ -161,7 +161,7 @@ fn lowest(links: &[u16], back: &[u16], count: usize, k: usize, rank: u16) -> usi
     best
 }
 
-// Writes n corners from the start on: always the lowest that is joined to the one before and has a number lower by one.
+// Writes n corners from the start on: always that of lowest record number that is joined to the one before and has a rank lower by one.
 fn follow(links: &[u16], back: &[u16], count: usize, start: usize, n: usize, way: &mut [u16])
     requires { ⌜ (length (now links) ≡ 29232) × (count ≤ 4872) × (start < count) × (count ≤ length (now back)) ⌝ }
     requires { ⌜ (n ≤ length (now way)) × (n ≤ 4872) ⌝ }
@@ -176,7 +176,7 @@ fn follow(links: &[u16], back: &[u16], count: usize, start: usize, n: usize, way
     }
 }
 
-// Numbers the corners: for each its fewest steps from the start plus one, or 0 if it is out of reach.
+// Gives each corner its rank: its fewest steps from the start plus one, or 0 if it is out of reach.
 pub fn rank_corners(links: &[u16], count: usize, start: usize, ranks: &mut [u16])
     requires { ⌜ (length (now links) ≡ 29232) × Within (now links) × (count ≤ 4872) × (start < count) × (count ≤ length (now ranks)) ⌝ }
     ensures { λ _. ⌜ now (ranks .exit) ≡ fewestSteps (graphIn (now (links .entry)) count) start ++ drop count (now (ranks .entry)) ⌝ }
@@ -187,11 +187,13 @@ pub fn rank_corners(links: &[u16], count: usize, start: usize, ranks: &mut [u16]
     copy(&found, count, ranks);
 }
 
-// Writes a way of n corners: from the start on, always to the lowest corner joined that is one step nearer to the end, by the steps from there.
+// Writes a way of n corners: from the start on, always to the corner of lowest record number that is joined and one step nearer to the end, by the ranks from
+// there.
 pub fn write_way(links: &[u16], count: usize, start: usize, end: usize, n: usize, way: &mut [u16])
     requires { ⌜ (length (now links) ≡ 29232) × Within (now links) × (count ≤ 4872) × (start < count) × (end < count) ⌝ }
     requires { ⌜ (n ≤ length (now way)) × (n ≤ 4872) ⌝ }
-    ensures { λ _. ⌜ now (way .exit) ≡ followed (now (links .entry)) (fewestSteps (graphIn (now (links .entry)) count) end) count n start ++ drop n (now (way .entry)) ⌝ }
+    ensures { λ _. ⌜ now (way .exit)
+        ≡ followed (now (links .entry)) (fewestSteps (graphIn (now (links .entry)) count) end) count n start ++ drop n (now (way .entry)) ⌝ }
 {
     let mut queue = [0u16; QUEUE];
     let mut back = [1u16; RANKS];

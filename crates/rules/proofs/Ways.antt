@@ -55,20 +55,20 @@ inLeaf f a b r = lent f 0 a b 8 8 r
 abbrev inSplit : Soundings → ℕ → ℕ → List ℕ → Passed
 inSplit f a b r = record { shape = split; soundings = f; amendments = []; clearance = 0; start = a; end = b; wayLength = 27; workLength = 27; answer = r }
 
--- a leaf with wet corners but for one, sounded again
-abbrev inAmended : List ℕ → ℕ → ℕ → List ℕ → Passed
-inAmended ta a b r =
-    record { shape = leaf; soundings = λ p. one; amendments = ta; clearance = 0; start = a; end = b; wayLength = 8; workLength = 8; answer = r }
-
 abbrev allWet : Soundings
 allWet = λ p. one
 
+-- a leaf with all corners wet, and amendments
+abbrev inAmended : List ℕ → ℕ → ℕ → List ℕ → Passed
+inAmended ta a b r = record { shape = leaf; soundings = allWet; amendments = ta; clearance = 0; start = a; end = b; wayLength = 8; workLength = 8; answer = r }
+
 unfoldable pub ways : List Passed
 ways =
-    -- all wet, from corner 0 to corner 7: of the six ways of three steps the lowest; what is past way and corners stays
+    -- all wet, so open at the box, but 12 is not given; from corner 0 to corner 7: of the six ways of three steps the lowest; what is past way and corners stays
     lent allWet 0 0 7 9 9 (0 ∷ 4 ∷ 0 ∷ 1 ∷ 3 ∷ 7 ∷ replicate 5 old ++ 1 ∷ 2 ∷ 2 ∷ 3 ∷ 2 ∷ 3 ∷ 3 ∷ 4 ∷ old ∷ []) ∷
-    -- back it is the lowest again, not the same turned round
-    inLeaf allWet 7 0 (0 ∷ 4 ∷ 7 ∷ 3 ∷ 1 ∷ 0 ∷ replicate 4 old ++ 4 ∷ 3 ∷ 3 ∷ 2 ∷ 3 ∷ 2 ∷ 2 ∷ 1 ∷ []) ∷
+    -- corners 0 and 2 dry: there, and back, which is not the same turned round
+    inLeaf (at (origin ∷ place 0 1024 0 ∷ []) minusOne one) 1 6 (0 ∷ 4 ∷ 1 ∷ 3 ∷ 7 ∷ 6 ∷ replicate 4 old ++ 0 ∷ 1 ∷ 0 ∷ 2 ∷ 3 ∷ 2 ∷ 4 ∷ 3 ∷ []) ∷
+    inLeaf (at (origin ∷ place 0 1024 0 ∷ []) minusOne one) 6 1 (0 ∷ 4 ∷ 6 ∷ 4 ∷ 5 ∷ 1 ∷ replicate 4 old ++ 0 ∷ 4 ∷ 0 ∷ 3 ∷ 2 ∷ 3 ∷ 1 ∷ 2 ∷ []) ∷
     -- corners 1 and 3 dry
     inLeaf (at (place 1024 0 0 ∷ place 1024 1024 0 ∷ []) minusOne one) 0 7
     (0 ∷ 4 ∷ 0 ∷ 2 ∷ 6 ∷ 7 ∷ replicate 4 old ++ 1 ∷ 0 ∷ 2 ∷ 0 ∷ 2 ∷ 3 ∷ 3 ∷ 4 ∷ []) ∷
@@ -76,14 +76,14 @@ ways =
     inAmended (resounded (place 1024 0 0) minusOne 1) 0 7 (0 ∷ 4 ∷ 0 ∷ 2 ∷ 3 ∷ 7 ∷ replicate 4 old ++ 1 ∷ 0 ∷ 2 ∷ 3 ∷ 2 ∷ 3 ∷ 3 ∷ 4 ∷ []) ∷
     -- the start is the end
     inLeaf allWet 5 5 (0 ∷ 1 ∷ 5 ∷ replicate 7 old ++ 3 ∷ 2 ∷ 4 ∷ 3 ∷ 2 ∷ 1 ∷ 3 ∷ 2 ∷ []) ∷
-    -- a dry start, which is the end too; a dry end; an end out of reach: only the work slice is written
+    -- a dry start; one that is the end too; a dry end; an end out of reach: only the work slice is written
     inLeaf (wetAtOnly (place 1024 0 0 ∷ [])) 0 1 (20 ∷ 0 ∷ replicate 8 old ++ replicate 8 0) ∷
     inLeaf (wetAtOnly (place 1024 0 0 ∷ [])) 0 0 (20 ∷ 0 ∷ replicate 8 old ++ replicate 8 0) ∷
     inLeaf (wetAtOnly (place 1024 0 0 ∷ [])) 1 0 (20 ∷ 0 ∷ replicate 8 old ++ 0 ∷ 1 ∷ replicate 6 0) ∷
     inLeaf (wetAtOnly (origin ∷ place 1024 1024 0 ∷ [])) 0 3 (20 ∷ 0 ∷ replicate 8 old ++ 1 ∷ replicate 7 0) ∷
     -- ground just awash is dry
     lent allWet one 0 0 8 8 (20 ∷ 0 ∷ replicate 8 old ++ replicate 8 0) ∷
-    -- no such corner; slices too short, even where a shorter one would do for the way; 18 before 19, 8 before 18
+    -- no such corner; slices too short, even where a shorter one would do for the way; 18 before 19, 19 before 20, 8 before 18
     inLeaf allWet 8 0 (18 ∷ 0 ∷ replicate 16 old) ∷
     lent allWet 0 0 8 0 0 (18 ∷ 0 ∷ []) ∷
     lent allWet 0 0 0 7 8 (19 ∷ 0 ∷ replicate 15 old) ∷

@@ -9,6 +9,7 @@ use Rattle.rules.specs.declared.Passage.{Passage}
 abbrev pub shownBy : Passage → List ℕ → List ℕ → Shown
 shownBy r way work = record { result = r; way = way; work = work }
 
+-- the result, and the slices afterwards, are those of the rules
 pub record Shows (s : Shown) (r : Passage) (way work : List ℕ) : Type 0 where
   pub result-is : r ≡ s .result
   pub way-is : way ≡ s .way

@@ -80,7 +80,7 @@ struct Asked {
     end: u32,
 }
 
-// Shows the way over the links of a survey, and numbers the corners.
+// Shows the way over the links of a survey, and gives the corners their ranks.
 fn show(
     cells: &[u8],
     corners: &[u8],
@@ -180,15 +180,15 @@ fn find_in_force(
     if number != 0 {
         return refused(number);
     }
-    let short = question_refusal(
+    let refusal = question_refusal(
         corners.len() / records::SIZE,
         asked.start,
         asked.end,
         way.len(),
         work.len(),
     );
-    if short != 0 {
-        return refused(short);
+    if refusal != 0 {
+        return refused(refusal);
     }
     find_accepted(cells, corners, asked, laid, octants, way, work)
 }
