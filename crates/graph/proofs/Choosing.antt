@@ -22,26 +22,29 @@ first-none f (suc n) i h = go (first-none f n (suc i) (λ j a b t. h j (omega ar
     go r true e = absurd (h i (omega arith) (omega arith) (subst T (sym e) tt))
     go r false e = r
 
-module _ (t r : List ℕ) (n k m : ℕ) where
-  abbrev test : ℕ → Bool
-  test j = eqb (getD r j 0) m && graphIn t n .joined k j
+-- corner j has the number m, and is joined to corner k
+abbrev test : List ℕ → List ℕ → ℕ → ℕ → ℕ → ℕ → Bool
+test t r n k m j = eqb (getD r j 0) m && graphIn t n .joined k j
 
-  linked-test : (p : ℕ) → p < 6 → getD r (linkAt t k p) 0 ≡ m → T (test (linkAt t k p))
-  linked-test p h e =
-      →and (eqb (getD r (linkAt t k p) 0) m) (graphIn t n .joined k (linkAt t k p)) (eq→eqb (getD r (linkAt t k p) 0) m e)
-      (in→any (λ i. eqb (linkAt t k i) (linkAt t k p)) (count 0 6) p (count-in 6 0 p (omega arith) (omega arith)) (eq→eqb (linkAt t k p) (linkAt t k p) refl))
+-- what is known after i links
+pub record Lowest (t r : List ℕ) (n k m i best : ℕ) : Type 0 where
+  pub upto : best ≤ n
+  pub lower : (p : ℕ) → p < i → linkAt t k p < n → getD r (linkAt t k p) 0 ≡ m → best ≤ linkAt t k p
+  pub one-of : (best ≡ n) ⊎ T (test t r n k m best)
 
-  -- what is known after i links
-  pub record Lowest (i best : ℕ) : Type 0 where
-    pub upto : best ≤ n
-    pub lower : (p : ℕ) → p < i → linkAt t k p < n → getD r (linkAt t k p) 0 ≡ m → best ≤ linkAt t k p
-    pub one-of : (best ≡ n) ⊎ T (test best)
+linked-test : (t r : List ℕ) (n k m p : ℕ) → p < 6 → getD r (linkAt t k p) 0 ≡ m → T (test t r n k m (linkAt t k p))
+linked-test t r n k m p h e =
+    let j = linkAt t k p in
+    →and (eqb (getD r j 0) m) (graphIn t n .joined k j) (eq→eqb (getD r j 0) m e)
+    (in→any (λ i. eqb (linkAt t k i) j) (count 0 6) p (count-in 6 0 p (omega arith) (omega arith)) (eq→eqb j j refl))
 
-  pub lowest-none : Lowest 0 n
+module _ {t r : List ℕ} {n k m : ℕ} where
+  pub lowest-none : Lowest t r n k m 0 n
   lowest-none = record { upto = omega arith; lower = λ p a. absurd (omega arith); one-of = inl refl }
 
-  pub lowest-next : (i best j b : ℕ) → Lowest i best → i < 6 → j ≡ linkAt t k i → b ≡ cond (ltb j best && eqb (getD r j 0) m) j best → Lowest (i + 1) b
-  lowest-next i best j b known h l e = go (ltb j best) refl (eqb (getD r j 0) m) refl
+  pub lowest-next : {i best j b : ℕ} → Lowest t r n k m i best → i < 6 → j ≡ linkAt t k i → b ≡ cond (ltb j best && eqb (getD r j 0) m) j best →
+      Lowest t r n k m (i + 1) b
+  lowest-next {i} {best} {j} {b} known h l e = go (ltb j best) refl (eqb (getD r j 0) m) refl
     where
       each : (b : ℕ) → b ≤ best → (linkAt t k i < n → getD r (linkAt t k i) 0 ≡ m → b ≤ linkAt t k i) →
           (p : ℕ) → p < i + 1 → linkAt t k p < n → getD r (linkAt t k p) 0 ≡ m → b ≤ linkAt t k p
@@ -53,43 +56,43 @@ module _ (t r : List ℕ) (n k m : ℕ) where
               let z : i ≡ p = omega arith in
               subst (λ (y : ℕ). linkAt t k y < n → getD r (linkAt t k y) 0 ≡ m → b ≤ linkAt t k y) z last d f
 
-      stays : b ≡ best → (linkAt t k i < n → getD r (linkAt t k i) 0 ≡ m → best ≤ linkAt t k i) → Lowest (i + 1) b
-      stays s last = subst (Lowest (i + 1)) (sym s) (record {
+      stays : b ≡ best → (linkAt t k i < n → getD r (linkAt t k i) 0 ≡ m → best ≤ linkAt t k i) → Lowest t r n k m (i + 1) b
+      stays s last = subst (Lowest t r n k m (i + 1)) (sym s) (record {
         upto = known .upto;
         lower = each best (omega arith) last;
         one-of = known .one-of;
       })
 
-      go : (x : Bool) → ltb j best ≡ x → (y : Bool) → eqb (getD r j 0) m ≡ y → Lowest (i + 1) b
+      go : (x : Bool) → ltb j best ≡ x → (y : Bool) → eqb (getD r j 0) m ≡ y → Lowest t r n k m (i + 1) b
       go false p y q = stays (e ∙ (λ d. cond (p d && q d) j best)) (λ u v. let w = ltb-false j best p in omega arith)
       go true p false q = stays (e ∙ (λ d. cond (p d && q d) j best)) (λ u v. absurd (eqb-false (getD r j 0) m q (ap (λ (z : ℕ). getD r z 0) l ∙ v)))
       go true p true q =
           let lt = ltb-true j best p in
           let up = known .upto in
-          subst (Lowest (i + 1)) (sym (e ∙ (λ d. cond (p d && q d) j best))) (record {
+          subst (Lowest t r n k m (i + 1)) (sym (e ∙ (λ d. cond (p d && q d) j best))) (record {
             upto = omega arith;
             lower = each j (omega arith) (λ u v. omega arith);
-            one-of = inr (subst (λ (z : ℕ). T (test z)) (sym l) (linked-test i h (ap (λ (z : ℕ). getD r z 0) (sym l) ∙ eqb-true (getD r j 0) m q)));
+            one-of = inr (subst (λ (z : ℕ). T (test t r n k m z)) (sym l) (linked-test t r n k m i h (ap (λ (z : ℕ). getD r z 0) (sym l) ∙ eqb-true (getD r j 0) m q)));
           })
 
-  least : (best j : ℕ) → Lowest 6 best → j < n → T (test j) → best ≤ j
-  least best j known h u =
+  least : {best : ℕ} → Lowest t r n k m 6 best → (j : ℕ) → j < n → T (test t r n k m j) → best ≤ j
+  least known j h u =
       let (a, b) = and→ (eqb (getD r j 0) m) (graphIn t n .joined k j) u in
       let (p, i, e) = any→in (λ p. eqb (linkAt t k p) j) (count 0 6) b in
       let q = eqb→eq (linkAt t k p) j e in
       let c = known .lower p (let v = in-count 6 0 p i .1 in omega arith) (omega arith) (ap (λ (z : ℕ). getD r z 0) q ∙ eqb→eq (getD r j 0) m a) in
       omega arith
 
-  pub lowest-found : (best : ℕ) → Lowest 6 best → (best ≡ n → ⊥) → best ≡ lowestLink t r n k m
-  lowest-found best known d = go (known .one-of)
+  pub lowest-found : {best : ℕ} → Lowest t r n k m 6 best → (best ≡ n → ⊥) → best ≡ lowestLink t r n k m
+  lowest-found {best} known d = go (known .one-of)
     where
-      go : (best ≡ n) ⊎ T (test best) → best ≡ lowestLink t r n k m
+      go : (best ≡ n) ⊎ T (test t r n k m best) → best ≡ lowestLink t r n k m
       go (inl e) = absurd (d e)
       go (inr u) =
           let up = known .upto in
-          let (a, b) = first-lowest test n 0 best (omega arith) (omega arith) u in
-          let c = least best (lowestLink t r n k m) known (omega arith) a in
+          let (a, b) = first-lowest (test t r n k m) n 0 best (omega arith) (omega arith) u in
+          let c = least known (lowestLink t r n k m) (omega arith) a in
           omega arith
 
-  pub none-found : Lowest 6 n → 0 ≡ lowestLink t r n k m
-  none-found known = sym (first-none test n 0 (λ j a b u. let c = least n j known (omega arith) u in omega arith))
+  pub none-found : Lowest t r n k m 6 n → 0 ≡ lowestLink t r n k m
+  none-found known = sym (first-none (test t r n k m) n 0 (λ j a b u. let c = least known j (omega arith) u in omega arith))

@@ -15,7 +15,8 @@ use Rattle.base.proofs.Slices.{filled-length}
 use Rattle.rules.specs.Ways.{fewestSteps}
 use Rattle.graph.specs.Table.{linkAt, Within, graphIn, Frontier, reached, visited}
 use Rattle.graph.proofs.Steps.{stepped, stepped-same}
-use Rattle.graph.proofs.Searching.{Searching, reached-le, passed-over, queue-kept, found, head-done, first-turn, last-turn}
+use Rattle.graph.proofs.Counting.{reached-le}
+use Rattle.graph.proofs.Searching.{Searching, passed-over, queue-kept, found, head-done, first-turn, last-turn}
 
 abbrev at : List ℕ → ℕ → ℕ
 at l k = getD l k 0
@@ -32,13 +33,26 @@ pub record Exploring (t : List ℕ) (n start : ℕ) (past : List ℕ) (s : Front
   pub size : length (s .found) ≡ 4873
   pub kept : drop n (s .found) ≡ past
 
-module _ (t : List ℕ) (n start : ℕ) (past : List ℕ) (few : n ≤ 4872) (within : Within t) (some : (k : ℕ) → n + k < 4873 → 1 ≤ at past k) where
-  module _ (s : Frontier) (head i : ℕ) (e : Exploring t n start past s head i) where
+-- all links of a corner, one after the other
+record Visited (t : List ℕ) (n start : ℕ) (past : List ℕ) (s : Frontier) (head k rank i : ℕ) : Type 0 where
+  exploring : Exploring t n start past (visited t rank k i s) head i
+  is-head : at (visited t rank k i s .queue) head ≡ k
+  next : at (visited t rank k i s .found) k + 1 ≡ rank
+  grown : head < visited t rank k i s .tail
+
+-- what a search stands on: the corners are few, no link is above 4,872, and all that is past the corners has a number
+pub record Grounded (t : List ℕ) (n : ℕ) (past : List ℕ) : Type 0 where
+  pub few : n ≤ 4872
+  pub within : Within t
+  pub some : (k : ℕ) → n + k < 4873 → 1 ≤ at past k
+
+module _ {t : List ℕ} {n start : ℕ} {past : List ℕ} (ground : Grounded t n past) where
+  module _ {s : Frontier} {head i : ℕ} (e : Exploring t n start past s head i) where
     pub tail-few : s .tail ≤ n
     tail-few = let a = reached-le (at (s .found)) n in let b = e .known .counted in omega arith
 
     pub rank-small : head < s .tail → at (s .found) (at (s .queue) head) ≤ 4872
-    rank-small h = let a = e .known .deep head h in let b = tail-few in omega arith
+    rank-small h = let a = e .known .deep head h in let b = tail-few in let c = ground .few in omega arith
 
     pub head-inside : head < s .tail → at (s .queue) head < n
     head-inside h = e .known .corner head h
@@ -51,7 +65,7 @@ module _ (t : List ℕ) (n start : ℕ) (past : List ℕ) (few : n ≤ 4872) (wi
         go (inl a) = a
         go (inr a) =
             let d : n + (j - n) ≡ j = omega arith in
-            let u = some (j - n) (omega arith) in
+            let u = ground .some (j - n) (omega arith) in
             let v = ap (λ (l : List ℕ). at l (j - n)) (e .kept) in
             let w = getD-drop n (s .found) (j - n) 0 in
             let x = ap (at (s .found)) d in
@@ -65,31 +79,37 @@ module _ (t : List ℕ) (n start : ℕ) (past : List ℕ) (few : n ≤ 4872) (wi
       head-link : linkAt t (at (s .queue) head) i ≡ linkAt t k i
       head-link = ap (λ (x : ℕ). linkAt t x i) is-head
 
+      link-listed : link < length (s .found)
+      link-listed = let w = ground .within (6 * k + i) in let z = e .size in omega arith
+
+      abbrev queue-then : List ℕ
+      queue-then = set (s .queue) (s .tail) link
+
       abbrev after : Bool → Frontier
       after b = record {
         tail = s .tail + bit b;
         found = set (s .found) link (cond b rank (at (s .found) link));
-        queue = set (s .queue) (s .tail) link;
+        queue = queue-then;
       }
 
-      earlier : (x : ℕ) → x < s .tail → at (set (s .queue) (s .tail) link) x ≡ at (s .queue) x
+      earlier : (x : ℕ) → x < s .tail → at queue-then x ≡ at (s .queue) x
       earlier x a = getD-set-other (s .queue) (s .tail) x link 0 (λ z. omega arith)
 
-      queue-stays : length (set (s .queue) (s .tail) link) ≡ 4878
+      queue-stays : length queue-then ≡ 4878
       queue-stays = length-set (s .queue) (s .tail) link ∙ e .queue-size
 
       -- a corner that has a number, or none at all
       over : eqb (at (s .found) link) 0 ≡ false → Exploring t n start past (after false) head (suc i)
       over f =
-          let same : set (s .found) link (at (s .found) link) ≡ s .found = set-same (s .found) link (let w = within (6 * k + i) in let z = e .size in omega arith) in
+          let same : set (s .found) link (at (s .found) link) ≡ s .found = set-same (s .found) link link-listed in
           let more : 1 ≤ at (s .found) link = positive (at (s .found) link) (eqb-false (at (s .found) link) 0 f) in
           let m : 1 ≤ at (s .found) (linkAt t (at (s .queue) head) i) = subst (λ (x : ℕ). 1 ≤ at (s .found) x) (sym head-link) more in
-          let u = queue-kept t n start (at (s .found)) (at (s .queue)) (at (set (s .queue) (s .tail) link)) head (suc i) (s .tail) earlier
+          let u = queue-kept t n start (at (s .found)) (at (s .queue)) (at queue-then) head (suc i) (s .tail) earlier
           (passed-over t n start (at (s .found)) (at (s .queue)) head i (s .tail) (e .known) h (λ z. m)) in
           let tail-stays : s .tail ≡ s .tail + 0 = omega arith in
-          subst (λ (l : List ℕ). Exploring t n start past (record { tail = s .tail + 0; found = l; queue = set (s .queue) (s .tail) link }) head (suc i)) (sym same)
+          subst (λ (l : List ℕ). Exploring t n start past (record { tail = s .tail + 0; found = l; queue = queue-then }) head (suc i)) (sym same)
           (record {
-            known = subst (Searching t n start (at (s .found)) (at (set (s .queue) (s .tail) link)) head (suc i)) tail-stays u;
+            known = subst (Searching t n start (at (s .found)) (at queue-then) head (suc i)) tail-stays u;
             queue-size = queue-stays;
             size = e .size;
             kept = e .kept;
@@ -102,20 +122,21 @@ module _ (t : List ℕ) (n start : ℕ) (past : List ℕ) (few : n ≤ 4872) (wi
       fresh : eqb (at (s .found) link) 0 ≡ true → Exploring t n start past (after true) head (suc i)
       fresh f =
           let none = eqb-true (at (s .found) link) 0 f in
-          let inside = new-inside link (within (6 * k + i)) none in
+          let inside = new-inside link (ground .within (6 * k + i)) none in
           let e-size = e .size in
           let q-size = e .queue-size in
           let tail-small = tail-few in
+          let few = ground .few in
           let u = found t n start (at (s .found)) (at (s .queue)) head i (s .tail) (e .known) h small
           (let z = head-link in omega arith) (ap (at (s .found)) head-link ∙ none)
-          (at (set (s .found) link rank)) (at (set (s .queue) (s .tail) link))
+          (at (set (s .found) link rank)) (at queue-then)
           (λ x d. getD-set-other (s .found) link x rank 0 (λ z. d (z ∙ sym head-link)))
           (ap (at (set (s .found) link rank)) head-link ∙ getD-set-same (s .found) link rank 0 (omega arith) ∙ sym next
           ∙ ap (λ (x : ℕ). at (s .found) x + 1) (sym is-head))
           earlier (getD-set-same (s .queue) (s .tail) link 0 (omega arith) ∙ sym head-link) in
           let tail-grows : suc (s .tail) ≡ s .tail + 1 = omega arith in
           record {
-            known = subst (Searching t n start (at (set (s .found) link rank)) (at (set (s .queue) (s .tail) link)) head (suc i)) tail-grows u;
+            known = subst (Searching t n start (at (set (s .found) link rank)) (at queue-then) head (suc i)) tail-grows u;
             queue-size = queue-stays;
             size = length-set (s .found) link rank ∙ e .size;
             kept = drop-set-lt n (s .found) link rank inside ∙ e .kept;
@@ -129,7 +150,7 @@ module _ (t : List ℕ) (n start : ℕ) (past : List ℕ) (few : n ≤ 4872) (wi
           go false f = over f
 
       -- the corner at the head stays there, with its number
-      head-stays : at (set (s .queue) (s .tail) link) head ≡ k
+      head-stays : at queue-then head ≡ k
       head-stays = earlier head h ∙ is-head
 
       rank-stays : at (reached rank (linkAt t k i) s .found) k + 1 ≡ rank
@@ -147,27 +168,19 @@ module _ (t : List ℕ) (n start : ℕ) (past : List ℕ) (few : n ≤ 4872) (wi
               let x = eqb-true (at (s .found) link) 0 f in
               absurd (omega arith)
           go false f (inr a) (inr c) =
-              ap (λ (l : List ℕ). at l k) (set-same (s .found) link (let w = within (6 * k + i) in let z = e .size in omega arith))
+              ap (λ (l : List ℕ). at l k) (set-same (s .found) link link-listed)
 
-  -- all links of a corner, one after the other
-  pub record Visited (s : Frontier) (head k rank i : ℕ) : Type 0 where
-    pub exploring : Exploring t n start past (visited t rank k i s) head i
-    pub is-head : at (visited t rank k i s .queue) head ≡ k
-    pub next : at (visited t rank k i s .found) k + 1 ≡ rank
-    pub grown : head < visited t rank k i s .tail
-
-  module _ (s : Frontier) (head : ℕ) (e : Exploring t n start past s head 0) (h : head < s .tail) (k rank : ℕ)
+  module _ {s : Frontier} {head : ℕ} (e : Exploring t n start past s head 0) (h : head < s .tail) (k rank : ℕ)
       (is-head : at (s .queue) head ≡ k) (next : at (s .found) k + 1 ≡ rank) where
-    links-followed : (i : ℕ) → i ≤ 6 → Visited s head k rank i
+    links-followed : (i : ℕ) → i ≤ 6 → Visited t n start past s head k rank i
     unfolding visited
     links-followed zero a = record { exploring = e; is-head = is-head; next = next; grown = h }
     links-followed (suc i) a =
         let v = links-followed i (omega arith) in
-        let r = visited t rank k i s in
         record {
-          exploring = turn r head i (v .exploring) (v .grown) (omega arith) k rank (v .is-head) (v .next);
-          is-head = head-stays r head i (v .exploring) (v .grown) (omega arith) k rank (v .is-head) (v .next);
-          next = rank-stays r head i (v .exploring) (v .grown) (omega arith) k rank (v .is-head) (v .next);
+          exploring = turn (v .exploring) (v .grown) (omega arith) k rank (v .is-head) (v .next);
+          is-head = head-stays (v .exploring) (v .grown) (omega arith) k rank (v .is-head) (v .next);
+          next = rank-stays (v .exploring) (v .grown) (omega arith) k rank (v .is-head) (v .next);
           grown = let g = v .grown in omega arith;
         }
 
@@ -185,10 +198,10 @@ module _ (t : List ℕ) (n start : ℕ) (past : List ℕ) (few : n ≤ 4872) (wi
           kept = v .exploring .kept;
         }
 
-  pub all-done : (s : Frontier) (head i : ℕ) → Exploring t n start past s head i → start < n → s .tail ≤ head →
-      s .found ≡ fewestSteps (graphIn t n) start ++ past
-  all-done s head i e a h =
+  pub all-done : {s : Frontier} {head i : ℕ} → Exploring t n start past s head i → start < n → s .tail ≤ head → s .found ≡ fewestSteps (graphIn t n) start ++ past
+  all-done {s} {head} {i} e a h =
       let z = e .size in
+      let few = ground .few in
       let u = last-turn t n start (at (s .found)) (at (s .queue)) head i (s .tail) (e .known) a h (take n (s .found))
       (length-take-le n (s .found) (omega arith)) (λ k l. getD-take n (s .found) k 0 l) in
       let v = stepped-same (graphIn t n) start (take n (s .found)) (fewestSteps (graphIn t n) start) u (stepped (graphIn t n) start) in
@@ -197,36 +210,44 @@ module _ (t : List ℕ) (n start : ℕ) (past : List ℕ) (few : n ≤ 4872) (wi
 
 -- ---- the numbers before the first turn
 
-module _ (t : List ℕ) (n start : ℕ) (lent cleared : List ℕ) (few : n ≤ 4872) (s : start < n) (ones : lent ≡ replicate 4873 1)
-    (clear : cleared ≡ replicate n 0 ++ drop n lent) where
+-- a table of ones, of which those of the corners are cleared
+pub record Cleared (n start : ℕ) (lent cleared : List ℕ) : Type 0 where
+  pub few : n ≤ 4872
+  pub is-start : start < n
+  pub ones : lent ≡ replicate 4873 1
+  pub clear : cleared ≡ replicate n 0 ++ drop n lent
+
+module _ {n start : ℕ} {lent cleared : List ℕ} (made : Cleared n start lent cleared) where
   lent-size : length lent ≡ 4873
-  lent-size = ap length ones ∙ length-replicate {A = ℕ} 4873 1
+  lent-size = ap length (made .ones) ∙ length-replicate {A = ℕ} 4873 1
 
   pub cleared-size : length cleared ≡ 4873
-  cleared-size = filled-length n 0 lent cleared (let z = lent-size in omega arith) clear ∙ lent-size
+  cleared-size = filled-length n 0 lent cleared (let z = lent-size in let few = made .few in omega arith) (made .clear) ∙ lent-size
 
   pub rest-kept : drop n (set cleared start 1) ≡ drop n lent
-  rest-kept = drop-set-lt n cleared start 1 s ∙ ap (drop n) clear ∙ drop-at (replicate n 0) (drop n lent) n (length-replicate n 0)
+  rest-kept = drop-set-lt n cleared start 1 (made .is-start) ∙ ap (drop n) (made .clear) ∙ drop-at (replicate n 0) (drop n lent) n (length-replicate n 0)
 
   pub past-ones : (k : ℕ) → n + k < 4873 → 1 ≤ at (drop n (set cleared start 1)) k
   past-ones k h =
       let a = getD-drop n lent k 0 in
-      let b = ap (λ (l : List ℕ). at l (n + k)) ones in
+      let b = ap (λ (l : List ℕ). at l (n + k)) (made .ones) in
       let c = getD-replicate {A = ℕ} 4873 (n + k) 1 0 h in
       let d = ap (λ (l : List ℕ). at l k) rest-kept in
       omega arith
 
   none : (k : ℕ) → k < n → (k ≡ start → ⊥) → at (set cleared start 1) k ≡ 0
   none k l d =
-      getD-set-other cleared start k 1 0 d ∙ ap (λ (x : List ℕ). at x k) clear
+      getD-set-other cleared start k 1 0 d ∙ ap (λ (x : List ℕ). at x k) (made .clear)
       ∙ List·getD-append (replicate n 0) (drop n lent) 0 k (let r = length-replicate {A = ℕ} n 0 in omega arith) ∙ getD-replicate n k 0 0 l
 
-  pub first-ranks : (queue : List ℕ) → length queue ≡ 4878 →
+  pub first-ranks : (t queue : List ℕ) → length queue ≡ 4878 →
       Exploring t n start (drop n (set cleared start 1)) (record { tail = 1; found = set cleared start 1; queue = set queue 0 start }) 0 0
-  first-ranks queue q =
+  first-ranks t queue q =
       let z = cleared-size in
+      let few = made .few in
+      let inside = made .is-start in
       record {
-        known = first-turn t n start (at (set cleared start 1)) (at (set queue 0 start)) s (getD-set-same queue 0 start 0 (omega arith))
+        known = first-turn t n start (at (set cleared start 1)) (at (set queue 0 start)) (made .is-start) (getD-set-same queue 0 start 0 (omega arith))
             (getD-set-same cleared start 1 0 (omega arith)) none;
         queue-size = length-set queue 0 start ∙ q;
         size = length-set cleared start 1 ∙ cleared-size;

@@ -2,13 +2,12 @@
 use Prim.Native.Nat.{ℕ, zero, suc, _≤_, _<_}
 use mathlib.Core.Path.{_≡_, refl}
 use mathlib.Core.Logic.{_⊎_, inl, inr}
-use mathlib.Core.List.{List}
 use native.Mathlib.Omega.{arith}
 use lib.ListN.{getD}
 use Rattle.rules.specs.Ways.{Graph, rounds, fewestSteps}
 use Rattle.graph.proofs.Walks.{walk-last}
-use Rattle.graph.proofs.Rounds.{inside, Known, Closed, reachedCount, after, stays-new}
-use Rattle.graph.proofs.Searching.{reached-few}
+use Rattle.graph.proofs.Rounds.{inside, Known, Enough, after, stays-new}
+use Rattle.graph.proofs.Counting.{reached-few}
 
 module _ (graph : Graph) (start k : ℕ) where
   round-few : (s : ℕ) → graph .size ≡ s → getD (rounds graph start s) k 0 ≤ s
@@ -20,9 +19,6 @@ module _ (graph : Graph) (start k : ℕ) where
       go (suc m) f = let i = inside graph k (walk-last graph m start k (after graph start 0 .known .there k m f)) in absurd (omega arith)
   round-few (suc n) e = go (getD (rounds graph start (suc n)) k 0) refl
     where
-      r : List ℕ
-      r = rounds graph start n
-
       known : Known graph start n (rounds graph start n)
       known = after graph start n .known
 
@@ -34,7 +30,7 @@ module _ (graph : Graph) (start k : ℕ) where
       old zero f h = absurd (omega arith)
       old (suc m) f h = let a = stays-new graph start n (rounds graph start n) known k m f in let b = known .top k in omega arith
 
-      reached-before : (m : ℕ) → getD (rounds graph start (suc n)) k 0 ≡ suc m → Closed graph start (rounds graph start n) ⊎ (n < reachedCount graph (rounds graph start n)) →
+      reached-before : (m : ℕ) → getD (rounds graph start (suc n)) k 0 ≡ suc m → Enough graph start n (rounds graph start n) →
           1 ≤ getD (rounds graph start n) k 0
       reached-before m f (inl c) = c k m (later .there k m f)
       reached-before m f (inr h) = pick (getD (rounds graph start n) k 0) refl
@@ -48,7 +44,7 @@ module _ (graph : Graph) (start k : ℕ) where
 
       go : (x : ℕ) → getD (rounds graph start (suc n)) k 0 ≡ x → getD (rounds graph start (suc n)) k 0 ≤ suc n
       go zero f = omega arith
-      go (suc m) f = old (getD (rounds graph start n) k 0) refl (reached-before m f (after graph start n .either-way))
+      go (suc m) f = old (getD (rounds graph start n) k 0) refl (reached-before m f (after graph start n .enough))
 
 pub steps-few : (graph : Graph) (start k : ℕ) → getD (fewestSteps graph start) k 0 ≤ graph .size
 unfolding fewestSteps

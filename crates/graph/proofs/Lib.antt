@@ -1,4 +1,5 @@
 pub mod Walks
+pub mod Counting
 pub mod Rounds
 pub mod Steps
 pub mod Ways

@@ -14,6 +14,7 @@ use Rattle.base.proofs.Lists.{In, any→in, in→any, count-in, length-count}
 use Rattle.base.proofs.Below.{get-table, length-table}
 use Rattle.base.proofs.Sums.{sum-le, sum-one, in-sum}
 use Rattle.rules.specs.Ways.{Graph, passable, reachedIn, rounds, fewestSteps}
+use Rattle.graph.proofs.Counting.{sum-more, reached, mark, no-mark, bit-small}
 use Rattle.graph.proofs.Walks.{Walk, walk-first, walk-last, walk-on, walk-before}
 
 -- what n rounds tell
@@ -37,6 +38,9 @@ module _ (graph : Graph) (start : ℕ) where
   abbrev begins : ℕ → ℕ
   begins k = bit (eqb k start && passable graph k)
 
+  abbrev first-round : List ℕ
+  first-round = map begins (count 0 (graph .size))
+
   begun : (k m : ℕ) → begins k ≡ suc m → Walk graph m start k × (m ≡ 0)
   begun k m e = go (eqb k start) refl (passable graph k) refl e
     where
@@ -49,7 +53,7 @@ module _ (graph : Graph) (start : ℕ) where
       go true f false g e = absurd (omega arith)
       go false f p g e = absurd (omega arith)
 
-  known-start : Known graph start 0 (map begins (count 0 (graph .size)))
+  known-start : Known graph start 0 first-round
   known-start = record {
     sized = length-table begins (graph .size);
     top = λ k. top k (entry begins (graph .size) k (below k (graph .size)));
@@ -57,26 +61,22 @@ module _ (graph : Graph) (start : ℕ) where
     least = λ k v w h. least k v w h;
   }
     where
-      small : (b : Bool) → bit b ≤ 1
-      small true = omega arith
-      small false = omega arith
-
       Entry : ℕ → Type 0
-      Entry k = ((k < graph .size) × (getD (map begins (count 0 (graph .size))) k 0 ≡ begins k))
-          ⊎ ((graph .size ≤ k) × (getD (map begins (count 0 (graph .size))) k 0 ≡ 0))
+      Entry k = ((k < graph .size) × (getD first-round k 0 ≡ begins k))
+          ⊎ ((graph .size ≤ k) × (getD first-round k 0 ≡ 0))
 
-      top : (k : ℕ) → Entry k → getD (map begins (count 0 (graph .size))) k 0 ≤ 1
-      top k (inl h) = let s = small (eqb k start && passable graph k) in let e = h .1 in omega arith
+      top : (k : ℕ) → Entry k → getD first-round k 0 ≤ 1
+      top k (inl h) = let s = bit-small (eqb k start && passable graph k) in let e = h .1 in omega arith
       top k (inr h) = let e = h .1 in omega arith
 
-      found : (k m : ℕ) → getD (map begins (count 0 (graph .size))) k 0 ≡ suc m → Entry k → Walk graph m start k
+      found : (k m : ℕ) → getD first-round k 0 ≡ suc m → Entry k → Walk graph m start k
       found k m e (inl h) = begun k m (sym (h .1) ∙ e) .0
       found k m e (inr h) = let f = h .1 in absurd (omega arith)
 
-      least : (k v : ℕ) → Walk graph v start k → v ≤ 0 → (1 ≤ getD (map begins (count 0 (graph .size))) k 0) × (getD (map begins (count 0 (graph .size))) k 0 ≤ suc v)
+      least : (k v : ℕ) → Walk graph v start k → v ≤ 0 → (1 ≤ getD first-round k 0) × (getD first-round k 0 ≤ suc v)
       least k zero w h =
           let t = walk-last graph 0 start k w in
-          let e : getD (map begins (count 0 (graph .size))) k 0 ≡ begins k = get-table begins 0 (graph .size) k (inside graph k t) in
+          let e : getD first-round k 0 ≡ begins k = get-table begins 0 (graph .size) k (inside graph k t) in
           let f : begins k ≡ 1 = rw (eq-eqb k start (sym (w .1)), true→ (passable graph k) t) in
           (omega arith, omega arith)
       least k (suc v) w h = absurd (omega arith)
@@ -199,61 +199,40 @@ module _ (graph : Graph) (start n : ℕ) (r : List ℕ) (known : Known graph sta
 
 -- ---- as many rounds as there are corners
 
-sum-more : (f g : ℕ → ℕ) (xs : List ℕ) → ((x : ℕ) → f x ≤ g x) → (x : ℕ) → In x xs → f x < g x → sum f xs < sum g xs
-sum-more f g [] h x i l = absurd i
-sum-more f g (y ∷ ys) h x (inl e) l =
-    let a = sum-le f g ys (λ z i. h z) in
-    let b : f y < g y = subst (λ z. f z < g z) e l in
-    omega arith
-sum-more f g (y ∷ ys) h x (inr i) l = let a = sum-more f g ys h x i l in let b = h y in omega arith
-
 -- how many corners are reached
 abbrev pub reachedCount : Graph → List ℕ → ℕ
-reachedCount graph r = sum (λ k. bit (not (eqb (getD r k 0) 0))) (count 0 (graph .size))
-
-pub few : (graph : Graph) (r : List ℕ) → reachedCount graph r ≤ graph .size
-few graph r =
-    let a = sum-le (λ k. bit (not (eqb (getD r k 0) 0))) (λ k. 1) (count 0 (graph .size)) (λ k i. small (not (eqb (getD r k 0) 0))) in
-    let b = sum-one (count 0 (graph .size)) in
-    let c = length-count (graph .size) 0 in
-    omega arith
-  where
-    small : (b : Bool) → bit b ≤ 1
-    small true = omega arith
-    small false = omega arith
+reachedCount graph r = reached (λ k. getD r k 0) (graph .size)
 
 -- every corner that a walk reaches has a number
 abbrev pub Closed : Graph → ℕ → List ℕ → Type 0
 Closed graph start r = (k v : ℕ) → Walk graph v start k → 1 ≤ getD r k 0
 
-mark : (x : ℕ) → 1 ≤ x → bit (not (eqb x 0)) ≡ 1
-mark x h = ap (λ b. bit (not b)) (ne-eqb x 0 (λ e. omega arith))
-
-no-mark : (x : ℕ) → x ≡ 0 → bit (not (eqb x 0)) ≡ 0
-no-mark x h = ap (λ b. bit (not b)) (eq-eqb x 0 h)
-
 module _ (graph : Graph) (start n : ℕ) (r : List ℕ) (known : Known graph start n r) where
-  abbrev fresh-at : ℕ → Bool
-  fresh-at k = eqb (getD r k 0) 0 && not (eqb (getD (new graph start n r known) k 0) 0)
+  -- the number of a corner after one round more
+  abbrev after-next : ℕ → ℕ
+  after-next k = getD (new graph start n r known) k 0
 
-  grows : (k : ℕ) → bit (not (eqb (getD r k 0) 0)) ≤ bit (not (eqb (getD (new graph start n r known) k 0) 0))
+  abbrev fresh-at : ℕ → Bool
+  fresh-at k = eqb (getD r k 0) 0 && not (eqb (after-next k) 0)
+
+  grows : (k : ℕ) → bit (not (eqb (getD r k 0) 0)) ≤ bit (not (eqb (after-next k) 0))
   grows k = go (getD r k 0) refl
     where
-      go : (x : ℕ) → getD r k 0 ≡ x → bit (not (eqb (getD r k 0) 0)) ≤ bit (not (eqb (getD (new graph start n r known) k 0) 0))
+      go : (x : ℕ) → getD r k 0 ≡ x → bit (not (eqb (getD r k 0) 0)) ≤ bit (not (eqb (after-next k) 0))
       go zero e = let a = no-mark (getD r k 0) e in omega arith
       go (suc m) e =
           let a = stays-new graph start n r known k m e in
           let b = mark (getD r k 0) (omega arith) in
-          let c = mark (getD (new graph start n r known) k 0) (omega arith) in
+          let c = mark (after-next k) (omega arith) in
           omega arith
 
   one-more : T (any fresh-at (count 0 (graph .size))) → reachedCount graph r < reachedCount graph (new graph start n r known)
   one-more t =
       let (k, i, f) = any→in fresh-at (count 0 (graph .size)) t in
-      let (a, b) = and→ (eqb (getD r k 0) 0) (not (eqb (getD (new graph start n r known) k 0) 0)) f in
+      let (a, b) = and→ (eqb (getD r k 0) 0) (not (eqb (after-next k) 0)) f in
       let c = no-mark (getD r k 0) (eqb→eq (getD r k 0) 0 a) in
-      let d : bit (not (eqb (getD (new graph start n r known) k 0) 0)) ≡ 1 = ap bit (true→ (not (eqb (getD (new graph start n r known) k 0) 0)) b) in
-      sum-more (λ j. bit (not (eqb (getD r j 0) 0))) (λ j. bit (not (eqb (getD (new graph start n r known) j 0) 0))) (count 0 (graph .size)) grows k i (omega arith)
+      let d : bit (not (eqb (after-next k) 0)) ≡ 1 = ap bit (true→ (not (eqb (after-next k) 0)) b) in
+      sum-more (λ j. bit (not (eqb (getD r j 0) 0))) (λ j. bit (not (eqb (after-next j) 0))) (count 0 (graph .size)) grows k i (omega arith)
 
   -- where a round reaches nothing new, nothing is left
   all-found : any fresh-at (count 0 (graph .size)) ≡ false → Closed graph start r
@@ -268,51 +247,55 @@ module _ (graph : Graph) (start n : ℕ) (r : List ℕ) (known : Known graph sta
       go j l (suc m) f h zero g =
           let p = walk-last graph (suc v) start k w in
           let a = met-next graph start n r known j k m f l p in
-          let b : T (not (eqb (getD (new graph start n r known) k 0) 0)) = subst T (sym (ap not (ne-eqb (getD (new graph start n r known) k 0) 0 (λ z. omega arith)))) tt in
-          let c = →and (eqb (getD r k 0) 0) (not (eqb (getD (new graph start n r known) k 0) 0)) (eq→eqb (getD r k 0) 0 g) b in
+          let b : T (not (eqb (after-next k) 0)) = subst T (sym (ap not (ne-eqb (after-next k) 0 (λ z. omega arith)))) tt in
+          let c = →and (eqb (getD r k 0) 0) (not (eqb (after-next k) 0)) (eq→eqb (getD r k 0) 0 g) b in
           let d = in→any fresh-at (count 0 (graph .size)) k (count-in (graph .size) 0 k (omega arith) (let i = inside graph k p in omega arith)) c in
           absurd (not-both d e)
 
   still-closed : Closed graph start r → Closed graph start (new graph start n r known)
   still-closed c k v w = go (getD r k 0) refl (c k v w)
     where
-      go : (x : ℕ) → getD r k 0 ≡ x → 1 ≤ getD r k 0 → 1 ≤ getD (new graph start n r known) k 0
+      go : (x : ℕ) → getD r k 0 ≡ x → 1 ≤ getD r k 0 → 1 ≤ after-next k
       go zero f h = absurd (omega arith)
       go (suc m) f h = let a = stays-new graph start n r known k m f in omega arith
 
--- n rounds: what they tell, and that they have found all or more than n corners
+-- all corners are found, or more than n
+abbrev pub Enough : Graph → ℕ → ℕ → List ℕ → Type 0
+Enough graph start n r = Closed graph start r ⊎ (n < reachedCount graph r)
+
+-- n rounds: what they tell, and that they have found enough
 pub record After (graph : Graph) (start n : ℕ) (r : List ℕ) : Type 0 where
   pub known : Known graph start n r
-  pub either-way : Closed graph start r ⊎ (n < reachedCount graph r)
+  pub enough : Enough graph start n r
 
 module _ (graph : Graph) (start : ℕ) where
   pub after : (n : ℕ) → After graph start n (rounds graph start n)
   unfolding rounds
-  after zero = record { known = known-start graph start; either-way = go (passable graph start) refl }
+  after zero = record { known = known-start graph start; enough = go (passable graph start) refl }
     where
-      r : List ℕ
-      r = map (begins graph start) (count 0 (graph .size))
-
-      go : (b : Bool) → passable graph start ≡ b → Closed graph start (map (begins graph start) (count 0 (graph .size))) ⊎ (0 < reachedCount graph (map (begins graph start) (count 0 (graph .size))))
+      go : (b : Bool) → passable graph start ≡ b → Enough graph start 0 (first-round graph start)
       go false e = inl (λ k v w. absurd (not-both (walk-first graph v start k w) e))
       go true e =
           let t : T (passable graph start) = subst T (sym e) tt in
           let a = known-start graph start .least start 0 (t, refl) (omega arith) .0 in
           let i = count-in (graph .size) 0 start (omega arith) (let j = inside graph start t in omega arith) in
-          let b = in-sum (λ k. bit (not (eqb (getD (map (begins graph start) (count 0 (graph .size))) k 0) 0))) (count 0 (graph .size)) start i in
-          let c = mark (getD (map (begins graph start) (count 0 (graph .size))) start 0) a in
+          let b = in-sum (λ k. bit (not (eqb (getD (first-round graph start) k 0) 0))) (count 0 (graph .size)) start i in
+          let c = mark (getD (first-round graph start) start 0) a in
           inr (omega arith)
   after (suc n) = go (after n)
     where
       go : After graph start n (rounds graph start n) → After graph start (suc n) (rounds graph start (suc n))
-      go a = record { known = known-next graph start n (rounds graph start n) (a .known); either-way = pick (a .either-way) (either (any fresh? (count 0 (graph .size)))) }
+      go a = record {
+        known = known-next graph start n (rounds graph start n) (a .known);
+        enough = pick (a .enough) (either (any fresh? (count 0 (graph .size))));
+      }
         where
           fresh? : ℕ → Bool
           fresh? = fresh-at graph start n (rounds graph start n) (a .known)
 
-          pick : Closed graph start (rounds graph start n) ⊎ (n < reachedCount graph (rounds graph start n)) →
+          pick : Enough graph start n (rounds graph start n) →
               T (any fresh? (count 0 (graph .size))) ⊎ (any fresh? (count 0 (graph .size)) ≡ false) →
-              Closed graph start (rounds graph start (suc n)) ⊎ (suc n < reachedCount graph (rounds graph start (suc n)))
+              Enough graph start (suc n) (rounds graph start (suc n))
           pick (inl c) f = inl (still-closed graph start n (rounds graph start n) (a .known) c)
           pick (inr c) (inl f) = inr (let b = one-more graph start n (rounds graph start n) (a .known) f in omega arith)
           pick (inr c) (inr f) =

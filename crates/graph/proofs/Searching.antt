@@ -1,27 +1,24 @@
--- What holds while the search runs, over a graph: f k is the number of corner k, q x the corner in place x of the queue. The corners in the places below `head` are
--- done with, and of the one at `head` the first i links.
+-- What holds while the search runs, over a graph: f k is the number of corner k, q x the corner in place x of the queue. The corners in the
+-- places below `head` are done with, and of the one at `head` the first i links.
 use Prim.Native.Nat.{ℕ, zero, suc, _+_, _≤_, _<_}
 use mathlib.Core.Path.{_≡_, refl, sym, ap, _∙_, subst}
 use mathlib.Core.Logic.{_⊎_, inl, inr}
 use mathlib.Core.Bool.{Bool, true, false, not, cond}
 use mathlib.Core.List.{List}
 use native.Mathlib.Omega.{arith}
-use lib.Dec.{T, eqb, eqb→eq, ltb}
+use lib.Dec.{T, eqb, eqb→eq, ltb, lt→ltb}
 use lib.ListN.{length, getD, List·getD-eq-default}
-use borrow.Author.Tests.{eq-eqb, ne-eqb}
+use borrow.Author.Tests.{eq-eqb, ne-eqb, eqb-false}
 use Rattle.base.specs.Lists.{sum, count, bit}
 use Rattle.base.proofs.Tests.{→and, below, either, eq→eqb}
 use Rattle.base.proofs.Lists.{In, any→in, in→any, in-count, count-in, length-count}
 use Rattle.base.proofs.Sums.{sum-le, sum-one, sum-same, sum-zero}
 use Rattle.rules.specs.Ways.{passable}
 use Rattle.graph.specs.Table.{linkAt, graphIn}
+use Rattle.graph.proofs.Counting.{reached, no-mark, reached-more, reached-few}
 use Rattle.graph.proofs.Walks.{Walk, walk-on, walk-before, walk-last}
 use Rattle.graph.proofs.Rounds.{inside}
 use Rattle.graph.proofs.Steps.{Stepped}
-
--- how many corners have a number
-abbrev pub reached : (ℕ → ℕ) → ℕ → ℕ
-reached f n = sum (λ k. bit (not (eqb (f k) 0))) (count 0 n)
 
 -- a number that corner k may have, after one with the number m
 pub record After (m x : ℕ) : Type 0 where
@@ -46,68 +43,16 @@ pub record Searching (t : List ℕ) (n start : ℕ) (f q : ℕ → ℕ) (head i 
   pub begun : f start ≡ 1
   pub upto : head ≤ tail
 
--- ---- counting
-
-sum-once : (f g : ℕ → ℕ) (n a j : ℕ) → a ≤ j → j < a + n → ((k : ℕ) → (k ≡ j → ⊥) → f k ≡ g k) → g j ≡ f j + 1 → sum g (count a n) ≡ sum f (count a n) + 1
-sum-once f g zero a j h l e d = absurd (omega arith)
-sum-once f g (suc n) a j h l e d = go (λ b. sum-once f g n (suc a) j b (omega arith) e d) (below a j)
-  where
-    go : (a < j → sum g (count (suc a) n) ≡ sum f (count (suc a) n) + 1) → (a < j) ⊎ (j ≤ a) →
-        g a + sum g (count (suc a) n) ≡ f a + sum f (count (suc a) n) + 1
-    go rest (inl b) = let r = rest b in let c = e a (λ z. omega arith) in omega arith
-    go rest (inr b) =
-        let z : a ≡ j = omega arith in
-        let c : g a ≡ f a + 1 = subst (λ (k : ℕ). g k ≡ f k + 1) (sym z) d in
-        let r = sum-same f g (count (suc a) n) (λ k m. e k (λ y. let v = in-count n (suc a) k m .0 in omega arith)) in
-        omega arith
-
-mark : (x : ℕ) → 1 ≤ x → bit (not (eqb x 0)) ≡ 1
-mark x h = ap (λ b. bit (not b)) (ne-eqb x 0 (λ e. omega arith))
-
-no-mark : (x : ℕ) → x ≡ 0 → bit (not (eqb x 0)) ≡ 0
-no-mark x h = ap (λ b. bit (not b)) (eq-eqb x 0 h)
-
--- one more corner has a number
-reached-more : (f g : ℕ → ℕ) (n j : ℕ) → j < n → f j ≡ 0 → 1 ≤ g j → ((k : ℕ) → (k ≡ j → ⊥) → g k ≡ f k) → reached g n ≡ reached f n + 1
-reached-more f g n j h e d o =
-    sum-once (λ k. bit (not (eqb (f k) 0))) (λ k. bit (not (eqb (g k) 0))) n 0 j (omega arith) (omega arith)
-    (λ k u. ap (λ (x : ℕ). bit (not (eqb x 0))) (sym (o k u))) (let a = no-mark (f j) e in let b = mark (g j) d in omega arith)
-
-pub reached-le : (f : ℕ → ℕ) (n : ℕ) → reached f n ≤ n
-reached-le f n =
-    let b = sum-le (λ k. bit (not (eqb (f k) 0))) (λ k. 1) (count 0 n) (λ k i. small (not (eqb (f k) 0))) in
-    let c = sum-one (count 0 n) in
-    let d = length-count n 0 in
-    omega arith
-  where
-    small : (b : Bool) → bit b ≤ 1
-    small true = omega arith
-    small false = omega arith
-
--- while a corner has no number, not all have one
-pub reached-few : (f : ℕ → ℕ) (n j : ℕ) → j < n → f j ≡ 0 → reached f n < n
-reached-few f n j h e =
-    let a = reached-more f g n j h e one-there others in
-    let b = reached-le g n in
-    omega arith
-  where
-    g : ℕ → ℕ
-    g k = cond (eqb k j) 1 (f k)
-
-    one-there : 1 ≤ cond (eqb j j) 1 (f j)
-    one-there = rw (eq-eqb j j refl) (omega arith)
-
-    others : (k : ℕ) → (k ≡ j → ⊥) → cond (eqb k j) 1 (f k) ≡ f k
-    others k u = rw (ne-eqb k j u)
-
 -- ---- the turns of the search
 
 module _ (t : List ℕ) (n start : ℕ) where
   linked : (j p : ℕ) → p < 6 → T (graphIn t n .joined j (linkAt t j p))
-  linked j p h = in→any (λ i. eqb (linkAt t j i) (linkAt t j p)) (count 0 6) p (count-in 6 0 p (omega arith) (omega arith)) (eq→eqb (linkAt t j p) (linkAt t j p) refl)
+  linked j p h =
+      let k = linkAt t j p in
+      in→any (λ i. eqb (linkAt t j i) k) (count 0 6) p (count-in 6 0 p (omega arith) (omega arith)) (eq→eqb k k refl)
 
   corner-passes : (k : ℕ) → k < n → T (passable (graphIn t n) k)
-  corner-passes k h = →and (ltb k n) true (lib.Dec.lt→ltb k n h) tt
+  corner-passes k h = →and (ltb k n) true (lt→ltb k n h) tt
 
   module _ (f q : ℕ → ℕ) (head i tail : ℕ) (known : Searching t n start f q head i tail) where
     pub room : (j : ℕ) → j < n → f j ≡ 0 → tail < n
@@ -154,18 +99,18 @@ module _ (t : List ℕ) (n start : ℕ) where
       }
 
       -- a link that is reached now
-      module _ (small : i < 6) (inside : link < n) (none : f link ≡ 0) (f' q' : ℕ → ℕ)
-          (others : (k : ℕ) → (k ≡ link → ⊥) → f' k ≡ f k) (rank : f' link ≡ f (q head) + 1)
-          (queue : (x : ℕ) → x < tail → q' x ≡ q x) (added : q' tail ≡ link) where
-        same : (k : ℕ) → 1 ≤ f k → f' k ≡ f k
+      module _ (small : i < 6) (inside : link < n) (none : f link ≡ 0) (ranks places : ℕ → ℕ)
+          (others : (k : ℕ) → (k ≡ link → ⊥) → ranks k ≡ f k) (rank : ranks link ≡ f (q head) + 1)
+          (queue : (x : ℕ) → x < tail → places x ≡ q x) (added : places tail ≡ link) where
+        same : (k : ℕ) → 1 ≤ f k → ranks k ≡ f k
         same k a = others k (λ e. let b = ap f e in omega arith)
 
         -- the places of the queue as before, and the new one
-        old-rank : (x : ℕ) → x < tail → f' (q' x) ≡ f (q x)
-        old-rank x a = ap f' (queue x a) ∙ same (q x) (known .ranked x a)
+        old-rank : (x : ℕ) → x < tail → ranks (places x) ≡ f (q x)
+        old-rank x a = ap ranks (queue x a) ∙ same (q x) (known .ranked x a)
 
-        new-rank : f' (q' tail) ≡ f (q head) + 1
-        new-rank = ap f' added ∙ rank
+        new-rank : ranks (places tail) ≡ f (q head) + 1
+        new-rank = ap ranks added ∙ rank
 
         each : (P : ℕ → Type 0) → ((x : ℕ) → x < tail → P x) → P tail → (x : ℕ) → x < suc tail → P x
         each P a b x c = go (below x tail)
@@ -174,33 +119,33 @@ module _ (t : List ℕ) (n start : ℕ) where
             go (inl d) = a x d
             go (inr d) = let e : tail ≡ x = omega arith in subst P e b
 
-        head-rank : f' (q' head) ≡ f (q head)
+        head-rank : ranks (places head) ≡ f (q head)
         head-rank = old-rank head h
 
-        corner' : (x : ℕ) → x < suc tail → q' x < n
-        corner' = each (λ x. q' x < n) (λ x a. let e = queue x a in let b = known .corner x a in omega arith) (let e = added in omega arith)
+        corner-now : (x : ℕ) → x < suc tail → places x < n
+        corner-now = each (λ x. places x < n) (λ x a. let e = queue x a in let b = known .corner x a in omega arith) (let e = added in omega arith)
 
-        ranked' : (x : ℕ) → x < suc tail → 1 ≤ f' (q' x)
-        ranked' =
-            each (λ x. 1 ≤ f' (q' x)) (λ x a. let e = old-rank x a in let b = known .ranked x a in omega arith) (let e = new-rank in omega arith)
+        ranked-now : (x : ℕ) → x < suc tail → 1 ≤ ranks (places x)
+        ranked-now =
+            each (λ x. 1 ≤ ranks (places x)) (λ x a. let e = old-rank x a in let b = known .ranked x a in omega arith) (let e = new-rank in omega arith)
 
-        listed' : (k : ℕ) → k < n → 1 ≤ f' k → (x : ℕ) × (x < suc tail) × (q' x ≡ k)
-        listed' k a b = go (either (eqb k link))
+        listed-now : (k : ℕ) → k < n → 1 ≤ ranks k → (x : ℕ) × (x < suc tail) × (places x ≡ k)
+        listed-now k a b = go (either (eqb k link))
           where
-            go : T (eqb k link) ⊎ (eqb k link ≡ false) → (x : ℕ) × (x < suc tail) × (q' x ≡ k)
+            go : T (eqb k link) ⊎ (eqb k link ≡ false) → (x : ℕ) × (x < suc tail) × (places x ≡ k)
             go (inl d) = (tail, omega arith, added ∙ sym (eqb→eq k link d))
             go (inr d) =
-                let e = others k (borrow.Author.Tests.eqb-false k link d) in
+                let e = others k (eqb-false k link d) in
                 let (x, l, g) = known .listed k a (omega arith) in
                 (x, omega arith, queue x l ∙ g)
 
         top : (x : ℕ) → x < tail → f (q x) ≤ f (q head) + 1
         top = known .close h
 
-        rising' : (x y : ℕ) → x ≤ y → y < suc tail → f' (q' x) ≤ f' (q' y)
-        rising' x y a b = go (below y tail) (below x tail)
+        rising-now : (x y : ℕ) → x ≤ y → y < suc tail → ranks (places x) ≤ ranks (places y)
+        rising-now x y a b = go (below y tail) (below x tail)
           where
-            go : (y < tail) ⊎ (tail ≤ y) → (x < tail) ⊎ (tail ≤ x) → f' (q' x) ≤ f' (q' y)
+            go : (y < tail) ⊎ (tail ≤ y) → (x < tail) ⊎ (tail ≤ x) → ranks (places x) ≤ ranks (places y)
             go (inl c) d =
                 let e : x < tail = omega arith in
                 let u = old-rank x e in
@@ -211,71 +156,72 @@ module _ (t : List ℕ) (n start : ℕ) where
                 let e : tail ≡ y = omega arith in
                 let u = old-rank x d in
                 let v = top x d in
-                let w = ap (λ (z : ℕ). f' (q' z)) e in
+                let w = ap (λ (z : ℕ). ranks (places z)) e in
                 let r = new-rank in
                 omega arith
             go (inr c) (inr d) =
                 let e : x ≡ y = omega arith in
-                let w = ap (λ (z : ℕ). f' (q' z)) e in
+                let w = ap (λ (z : ℕ). ranks (places z)) e in
                 omega arith
 
-        close' : (x : ℕ) → x < suc tail → f' (q' x) ≤ f' (q' head) + 1
-        close' =
+        close-now : (x : ℕ) → x < suc tail → ranks (places x) ≤ ranks (places head) + 1
+        close-now =
             let e = head-rank in
-            each (λ x. f' (q' x) ≤ f' (q' head) + 1) (λ x a. let u = old-rank x a in let v = top x a in omega arith) (let u = new-rank in omega arith)
+            each (λ x. ranks (places x) ≤ ranks (places head) + 1) (λ x a. let u = old-rank x a in let v = top x a in omega arith) (let u = new-rank in omega arith)
 
-        deep' : (x : ℕ) → x < suc tail → f' (q' x) ≤ x + 1
-        deep' =
-            each (λ x. f' (q' x) ≤ x + 1) (λ x a. let u = old-rank x a in let v = known .deep x a in omega arith)
+        deep-now : (x : ℕ) → x < suc tail → ranks (places x) ≤ x + 1
+        deep-now =
+            each (λ x. ranks (places x) ≤ x + 1) (λ x a. let u = old-rank x a in let v = known .deep x a in omega arith)
             (let u = new-rank in let v = known .deep head h in omega arith)
 
-        there' : (k m : ℕ) → k < n → f' k ≡ suc m → Walk (graphIn t n) m start k
-        there' k m a b = go (either (eqb k link))
+        there-now : (k m : ℕ) → k < n → ranks k ≡ suc m → Walk (graphIn t n) m start k
+        there-now k m a b = go (either (eqb k link))
           where
             go : T (eqb k link) ⊎ (eqb k link ≡ false) → Walk (graphIn t n) m start k
-            go (inr d) = known .there k m a (sym (others k (borrow.Author.Tests.eqb-false k link d)) ∙ b)
+            go (inr d) = known .there k m a (sym (others k (eqb-false k link d)) ∙ b)
             go (inl d) =
                 let e = eqb→eq k link d in
-                let u : f (q head) ≡ m = (let v = ap f' e in let w = rank in omega arith) in
+                let u : f (q head) ≡ m = (let v = ap ranks e in let w = rank in omega arith) in
                 subst (λ (z : ℕ). Walk (graphIn t n) m start z) (sym e) (step m u)
               where
                 step : (m : ℕ) → f (q head) ≡ m → Walk (graphIn t n) m start link
                 step zero u = let v = known .ranked head h in absurd (omega arith)
                 step (suc m) u =
-                    walk-on (graphIn t n) m start (q head) link (known .there (q head) m (known .corner head h) u) (linked (q head) i small) (corner-passes link inside)
+                    walk-on (graphIn t n) m start (q head) link (known .there (q head) m (known .corner head h) u) (linked (q head) i small)
+                    (corner-passes link inside)
 
-        pub found : Searching t n start f' q' head (suc i) (suc tail)
+        pub found : Searching t n start ranks places head (suc i) (suc tail)
         found = record {
-          corner = corner';
-          ranked = ranked';
-          listed = listed';
-          counted = let a = reached-more f f' n link inside none (let e = rank in omega arith) others in let b = known .counted in omega arith;
-          rising = rising';
-          close = λ a. close';
-          deep = deep';
-          there = there';
+          corner = corner-now;
+          ranked = ranked-now;
+          listed = listed-now;
+          counted = let a = reached-more f ranks n link inside none (let e = rank in omega arith) others in let b = known .counted in omega arith;
+          rising = rising-now;
+          close = λ a. close-now;
+          deep = deep-now;
+          there = there-now;
           done = λ x p a b l.
               let c : x < tail = omega arith in
               let e = queue x c in
-              let l' : linkAt t (q x) p < n = subst (λ (z : ℕ). linkAt t z p < n) e l in
-              let d = known .done x p a b l' in
-              let u : After (f (q x)) (f' (linkAt t (q x) p)) = subst (After (f (q x))) (sym (same (linkAt t (q x) p) (d .some))) d in
+              let before : linkAt t (q x) p < n = subst (λ (z : ℕ). linkAt t z p < n) e l in
+              let d = known .done x p a b before in
+              let u : After (f (q x)) (ranks (linkAt t (q x) p)) = subst (After (f (q x))) (sym (same (linkAt t (q x) p) (d .some))) d in
               let v = old-rank x c in
-              subst (λ (z : ℕ). After z (f' (linkAt t (q' x) p))) (sym v) (subst (λ (z : ℕ). After (f (q x)) (f' (linkAt t z p))) (sym e) u);
+              subst (λ (z : ℕ). After z (ranks (linkAt t (places x) p))) (sym v) (subst (λ (z : ℕ). After (f (q x)) (ranks (linkAt t z p))) (sym e) u);
           partly = λ p a b l.
               let e = queue head h in
-              let l' : linkAt t (q head) p < n = subst (λ (z : ℕ). linkAt t z p < n) e l in
-              let u = partly-more f' same (λ o. record { some = let w = rank in omega arith; near = let w = rank in omega arith }) p b l' in
-              subst (λ (z : ℕ). After z (f' (linkAt t (q' head) p))) (sym head-rank)
-              (subst (λ (z : ℕ). After (f (q head)) (f' (linkAt t z p))) (sym e) u);
+              let before : linkAt t (q head) p < n = subst (λ (z : ℕ). linkAt t z p < n) e l in
+              let u = partly-more ranks same (λ o. record { some = let w = rank in omega arith; near = let w = rank in omega arith }) p b before in
+              subst (λ (z : ℕ). After z (ranks (linkAt t (places head) p))) (sym head-rank)
+              (subst (λ (z : ℕ). After (f (q head)) (ranks (linkAt t z p))) (sym e) u);
           begun = same start (let b = known .begun in omega arith) ∙ known .begun;
           upto = omega arith;
         }
 
   -- what stands in the queue past its tail does not matter
-  pub queue-kept : (f q q' : ℕ → ℕ) (head i tail : ℕ) → ((x : ℕ) → x < tail → q' x ≡ q x) → Searching t n start f q head i tail →
-      Searching t n start f q' head i tail
-  queue-kept f q q' head i tail same known = record {
+  pub queue-kept : (f q places : ℕ → ℕ) (head i tail : ℕ) → ((x : ℕ) → x < tail → places x ≡ q x) → Searching t n start f q head i tail →
+      Searching t n start f places head i tail
+  queue-kept f q places head i tail same known = record {
     corner = λ x a. let e = same x a in let b = known .corner x a in omega arith;
     ranked = λ x a. let e = ap f (same x a) in let b = known .ranked x a in omega arith;
     listed = λ k a b. let (x, l, e) = known .listed k a b in (x, l, same x l ∙ e);
@@ -337,7 +283,7 @@ module _ (t : List ℕ) (n start : ℕ) where
 
       listed : (k : ℕ) → k < n → 1 ≤ f k → T (eqb k start) ⊎ (eqb k start ≡ false) → (x : ℕ) × (x < 1) × (q x ≡ k)
       listed k a b (inl d) = (0, omega arith, e ∙ sym (eqb→eq k start d))
-      listed k a b (inr d) = let z = none k a (borrow.Author.Tests.eqb-false k start d) in absurd (omega arith)
+      listed k a b (inr d) = let z = none k a (eqb-false k start d) in absurd (omega arith)
 
       there : (k m : ℕ) → k < n → f k ≡ suc m → T (eqb k start) ⊎ (eqb k start ≡ false) → Walk (graphIn t n) m start k
       there k m a b (inl d) =
@@ -345,7 +291,7 @@ module _ (t : List ℕ) (n start : ℕ) where
           let v = ap f s in
           let z : m ≡ 0 = omega arith in
           subst (λ (y : ℕ). Walk (graphIn t n) y start k) (sym z) (corner-passes start h, sym s)
-      there k m a b (inr d) = let z = none k a (borrow.Author.Tests.eqb-false k start d) in absurd (omega arith)
+      there k m a b (inr d) = let z = none k a (eqb-false k start d) in absurd (omega arith)
 
       counted : 1 ≡ reached f n
       counted =
@@ -359,7 +305,7 @@ module _ (t : List ℕ) (n start : ℕ) where
             where
               go : (b : Bool) → eqb k start ≡ b → bit (not (eqb (cond b 0 (f k)) 0)) ≡ 0
               go true u = refl
-              go false u = no-mark (f k) (none k (let v = in-count n 0 k i .1 in omega arith) (borrow.Author.Tests.eqb-false k start u))
+              go false u = no-mark (f k) (none k (let v = in-count n 0 k i .1 in omega arith) (eqb-false k start u))
 
   pub last-turn : (f q : ℕ → ℕ) (head i tail : ℕ) → Searching t n start f q head i tail → start < n → tail ≤ head → (r : List ℕ) → length r ≡ n →
       ((k : ℕ) → k < n → getD r k 0 ≡ f k) → Stepped (graphIn t n) start r
@@ -389,18 +335,10 @@ module _ (t : List ℕ) (n start : ℕ) where
               let m = eqb→eq (linkAt t j p) k d in
               let y : linkAt t (q x) p ≡ k = ap (λ (z : ℕ). linkAt t z p) g ∙ m in
               let z = known .done x p (omega arith) (in-count 6 0 p o .1) (omega arith) in
-              let u = ap f y in
-              let v' = ap f g in
-              let z1 = z .some in
-              let z2 = z .near in
-              let a2 = a .near in
-              record { some = omega arith; near = omega arith }
+              record { some = omega (arith, z .some, ap f y); near = omega (arith, z .near, a .near, ap f y, ap f g) }
 
       least : (k v : ℕ) → Walk (graphIn t n) v start k → (1 ≤ getD r k 0) × (getD r k 0 ≤ suc v)
       least k v w =
           let b = inside (graphIn t n) k (walk-last (graphIn t n) v start k w) in
           let a = rank k v w in
-          let u = same k b in
-          let a1 = a .some in
-          let a2 = a .near in
-          (omega arith, omega arith)
+          (omega (arith, a .some, same k b), omega (arith, a .near, same k b))

@@ -9,7 +9,8 @@ use lib.Seq.{ext-getD}
 use Rattle.base.proofs.Tests.{below}
 use Rattle.rules.specs.Ways.{Graph, rounds, fewestSteps, ExactSteps, StepsExact}
 use Rattle.graph.proofs.Walks.{Walk, walk-way, way-walk}
-use Rattle.graph.proofs.Rounds.{After, Closed, reachedCount, few, after}
+use Rattle.graph.proofs.Counting.{reached-le}
+use Rattle.graph.proofs.Rounds.{After, Closed, Enough, after}
 
 -- the same as `Exact`, in walks
 pub record Stepped (graph : Graph) (start : ℕ) (r : List ℕ) : Type 0 where
@@ -24,15 +25,14 @@ stepped graph start = go (after graph start (graph .size))
     r : List ℕ
     r = rounds graph start (graph .size)
 
-    go : After graph start (graph .size) (rounds graph start (graph .size)) → Stepped graph start (rounds graph start (graph .size))
-    go a = record { sized = a .known .sized; there = a .known .there; least = λ k v w. least k v w (closed (a .either-way)) (below (graph .size) v) }
+    go : After graph start (graph .size) r → Stepped graph start r
+    go a = record { sized = a .known .sized; there = a .known .there; least = λ k v w. least k v w (closed (a .enough)) (below (graph .size) v) }
       where
-        closed : Closed graph start (rounds graph start (graph .size)) ⊎ (graph .size < reachedCount graph (rounds graph start (graph .size))) → Closed graph start (rounds graph start (graph .size))
+        closed : Enough graph start (graph .size) r → Closed graph start r
         closed (inl c) = c
-        closed (inr h) = let f = few graph (rounds graph start (graph .size)) in absurd (omega arith)
+        closed (inr h) = let f = reached-le (λ k. getD r k 0) (graph .size) in absurd (omega arith)
 
-        least : (k v : ℕ) → Walk graph v start k → Closed graph start (rounds graph start (graph .size)) → (graph .size < v) ⊎ (v ≤ graph .size) →
-            (1 ≤ getD (rounds graph start (graph .size)) k 0) × (getD (rounds graph start (graph .size)) k 0 ≤ suc v)
+        least : (k v : ℕ) → Walk graph v start k → Closed graph start r → (graph .size < v) ⊎ (v ≤ graph .size) → (1 ≤ getD r k 0) × (getD r k 0 ≤ suc v)
         least k v w c (inl h) = let t = a .known .top k in (c k v w, omega arith)
         least k v w c (inr h) = a .known .least k v w h
 

@@ -97,7 +97,8 @@ module _ (graph : Graph) (t : List ℕ) (links : Links graph t) where
         ap (λ (j : ℕ). k ∷ followed t r (graph .size) (suc n) j) (chosen-same n k e)
         ∙ ap (λ (l : List ℕ). k ∷ l) (followed-is n (chosen graph both end r known n k) (chosen-near graph both end r known n k e .0))
 
-  pub way-of : BothWays graph → (start end n : ℕ) → getD (fewestSteps graph end) start 0 ≡ suc n → followed t (fewestSteps graph end) (graph .size) (suc n) start ≡ wayOf graph start end
+  pub way-of : BothWays graph → (start end n : ℕ) → getD (fewestSteps graph end) start 0 ≡ suc n →
+      followed t (fewestSteps graph end) (graph .size) (suc n) start ≡ wayOf graph start end
   unfolding wayOf
   way-of both start end n e =
       followed-is both end (fewestSteps graph end) (stepped graph end) n start e ∙ ap (λ (m : ℕ). wayFrom graph (fewestSteps graph end) (pred m) start) (sym e)

@@ -1,16 +1,12 @@
 -- The links of a corner, followed one after the other.
-use Prim.Native.Nat.{ℕ, suc, _+_, _≤_}
+use Prim.Native.Nat.{ℕ, suc, _+_}
 use mathlib.Core.Path.{_≡_, refl, ap}
-use mathlib.Core.Bool.{Bool, true, false}
-use native.Mathlib.Omega.{arith}
-use Rattle.base.specs.Lists.{bit}
-use Rattle.graph.specs.Table.{linkAt, Frontier, reached, visited}
 use mathlib.Core.List.{List}
+use native.Mathlib.Omega.{arith}
+use Rattle.graph.specs.Table.{linkAt, Frontier, reached, visited}
 
--- a corner adds one to the queue at most
-pub one-at-most : (b : Bool) → bit b ≤ 1
-one-at-most true = omega arith
-one-at-most false = omega arith
+abbrev pub frontier : ℕ → List ℕ → List ℕ → Frontier
+frontier tail found queue = record { tail = tail; found = found; queue = queue }
 
 module _ (t : List ℕ) (rank k : ℕ) (s : Frontier) where
   pub none-visited : s ≡ visited t rank k 0 s

@@ -16,10 +16,14 @@ shared-slice-read-if2 : tie.Need-shared-slice-read-if2
 shared-slice-read-if2 c = search needs
 
 returns-2 : tie.Need-returns-2
-returns-2 c = let a = c .before .before .before .args in rw (lt-ltb (a .j) (a .best) (omega arith), ne-eqb (getD (a .back .now) (a .j) 0) (a .rank) (c .if2 .taken))
+returns-2 c =
+    let a = c .before .before .before .args in
+    rw (lt-ltb (a .j) (a .best) (omega arith), ne-eqb (getD (a .back .now) (a .j) 0) (a .rank) (c .if2 .taken))
 
 returns-3 : tie.Need-returns-3
-returns-3 c = let a = c .before .before .before .args in rw (lt-ltb (a .j) (a .best) (omega arith), eq-eqb (getD (a .back .now) (a .j) 0) (a .rank) (c .if2 .left))
+returns-3 c =
+    let a = c .before .before .before .args in
+    rw (lt-ltb (a .j) (a .best) (omega arith), eq-eqb (getD (a .back .now) (a .j) 0) (a .rank) (c .if2 .left))
 
 pub better-spec : {M : Type 1} → statement M
 better-spec = tie.close (tie.spec returns mul-if2 shared-slice-read-if2 returns-2 returns-3)

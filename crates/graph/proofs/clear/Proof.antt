@@ -3,7 +3,7 @@ use Prim.Native.Nat.{ℕ, _-_, _≤_}
 use mathlib.Core.Path.{_≡_, refl, ap, _∙_, subst}
 use mathlib.Core.List.{List, _++_}
 use native.Mathlib.Omega.{arith}
-use lib.ListN.{drop, replicate, set}
+use lib.ListN.{length, drop, replicate, set}
 use borrow.Author.Fill.{fill-more}
 use Rattle.base.proofs.Slices.{filled-length}
 use borrow.Author.Needs.{needs}
@@ -16,6 +16,10 @@ Inv-loop found₀ count k₀ found k = (k ≤ count) × (found ≡ replicate k 0
 abbrev μ-loop : tie.MeasureT-loop
 μ-loop found₀ count k₀ found k = count - k
 
+-- the slice is as long as before
+size-kept : (l : tie.At-loop Inv-loop μ-loop) → length (l .loop .found) ≡ length (l .before .args .found .now)
+size-kept l = filled-length (l .loop .k) 0 (l .before .args .found .now) (l .loop .found) (omega (arith, l .before .pre, l .loop .inv .0)) (l .loop .inv .1)
+
 loop-holds : tie.Need-loop-holds Inv-loop μ-loop
 loop-holds c = (search needs, refl)
 
@@ -23,7 +27,7 @@ mul-found : tie.Need-mul-found Inv-loop μ-loop
 mul-found c = search needs
 
 slice-write-found : tie.Need-slice-write-found Inv-loop μ-loop
-slice-write-found c = omega (arith, filled-length (c .before .loop .k) 0 (c .before .before .args .found .now) (c .before .loop .found) (omega arith) (c .before .loop .inv .1))
+slice-write-found c = omega (arith, size-kept (c .before))
 
 add-k : tie.Need-add-k Inv-loop μ-loop
 add-k c = search needs
@@ -37,7 +41,7 @@ loop-again c =
     (omega arith, ap (λ (t : List ℕ). set t (l .loop .k) 0) (l .loop .inv .1) ∙ fill-more (l .loop .k) 0 (l .before .args .found .now) (omega arith))
 
 same-length : tie.Need-same-length Inv-loop μ-loop
-same-length c = filled-length (c .before .loop .k) 0 (c .before .before .args .found .now) (c .before .loop .found) (omega arith) (c .before .loop .inv .1)
+same-length c = size-kept (c .before)
 
 returns : tie.Need-returns Inv-loop μ-loop
 returns c =

@@ -6,13 +6,12 @@ use native.Mathlib.Omega.{arith}
 use lib.ListN.{length, getD, set, drop, length-replicate}
 use Rattle.rules.specs.Ways.{fewestSteps}
 use Rattle.graph.specs.Table.{graphIn, Frontier}
-use Rattle.graph.proofs.Exploring.{Exploring, tail-few, rank-small, head-inside, next-head, all-done, cleared-size, first-ranks, rest-kept, past-ones}
+use Rattle.graph.proofs.Exploring.{Exploring, Grounded, tail-few, rank-small, head-inside, next-head, all-done}
+use Rattle.graph.proofs.Exploring.{Cleared, cleared-size, first-ranks, rest-kept, past-ones}
+use Rattle.graph.proofs.Visiting.{frontier}
 use borrow.Author.Needs.{needs}
 use Rattle.graph.proofs.explore.Statement.{statement}
 use Rattle.graph.proofs.explore.Tie as tie
-
-abbrev frontier : ℕ → List ℕ → List ℕ → Frontier
-frontier tail found queue = record { tail = tail; found = found; queue = queue }
 
 abbrev Inv-loop : tie.InvT-loop
 Inv-loop links count start found₀ queue₀ head₀ tail₀ found queue head tail =
@@ -21,39 +20,39 @@ Inv-loop links count start found₀ queue₀ head₀ tail₀ found queue head ta
 abbrev μ-loop : tie.MeasureT-loop
 μ-loop links count start found₀ queue₀ head₀ tail₀ found queue head tail = 4872 - head
 
--- from the loop to the start, and to what is cleared
+-- from the loop to what is cleared, and from there to the start
+abbrev start : tie.After-clear Inv-loop μ-loop → tie.Start Inv-loop μ-loop
+start k = k .before .before .before .before .before
+
+abbrev wiped : tie.At-loop Inv-loop μ-loop → tie.After-clear Inv-loop μ-loop
+wiped l = l .before .before .before
+
 abbrev begin : tie.At-loop Inv-loop μ-loop → tie.Start Inv-loop μ-loop
-begin l = l .before .before .before .before .before .before .before .before
+begin l = start (wiped l)
+
+made : (k : tie.After-clear Inv-loop μ-loop) → Cleared (start k .args .count) (start k .args .start) (start k .args .found .now) (k .clear .last .0)
+made k = record { few = start k .pre .0 .2; is-start = start k .pre .0 .3; ones = start k .pre .1 .0; clear = k .clear .ensures }
 
 module _ (l : tie.At-loop Inv-loop μ-loop) where
-  abbrev t : List ℕ
-  t = begin l .args .links .now
+  -- what stands past the corners
+  abbrev past : List ℕ
+  past = drop (begin l .args .count) (set (wiped l .clear .last .0) (begin l .args .start) 1)
 
-  abbrev n : ℕ
-  n = begin l .args .count
-
-  abbrev cleared : List ℕ
-  cleared = l .before .before .before .clear .last .0
-
-  abbrev here : Frontier
-  here = frontier (l .loop .tail) (l .loop .found) (l .loop .queue)
+  ground : Grounded (begin l .args .links .now) (begin l .args .count) past
+  ground = record { few = begin l .pre .0 .2; within = begin l .pre .0 .1; some = past-ones (made (wiped l)) }
 
   few : begin l .args .count ≤ 4872
-  few = begin l .pre .0 .2
-
-  some : (k : ℕ) → begin l .args .count + k < 4873 → 1 ≤ getD (drop (begin l .args .count) (set (l .before .before .before .clear .last .0) (begin l .args .start) 1)) k 0
-  some =
-      past-ones t n (begin l .args .start) (begin l .args .found .now) cleared few (begin l .pre .0 .3) (begin l .pre .1 .0) (l .before .before .before .clear .ensures)
+  few = ground .few
 
   tail-small : l .loop .tail ≤ 4872
-  tail-small = let a = tail-few t n (begin l .args .start) _ few (begin l .pre .0 .1) some here _ _ (l .loop .inv) in let b = few in omega arith
+  tail-small = let a = tail-few ground (l .loop .inv) in let b = few in omega arith
 
   module _ (h : l .loop .head < l .loop .tail) where
     corner-small : getD (l .loop .queue) (l .loop .head) 0 < begin l .args .count
-    corner-small = head-inside t n (begin l .args .start) _ few (begin l .pre .0 .1) some here _ _ (l .loop .inv) h
+    corner-small = head-inside ground (l .loop .inv) h
 
     step-small : getD (l .loop .found) (getD (l .loop .queue) (l .loop .head) 0) 0 ≤ 4872
-    step-small = rank-small t n (begin l .args .start) _ few (begin l .pre .0 .1) some here _ _ (l .loop .inv) h
+    step-small = rank-small ground (l .loop .inv) h
 
 clear-requires : tie.Need-clear-requires Inv-loop μ-loop
 clear-requires c κs =
@@ -68,9 +67,7 @@ mul-found c = search needs
 slice-write-found : tie.Need-slice-write-found Inv-loop μ-loop
 slice-write-found c =
     let k = c .before .before in
-    let b = k .before .before .before .before .before in
-    let a = b .args in
-    omega (arith, b .pre .0 .2, b .pre .0 .3, cleared-size (a .links .now) (a .count) (a .start) (a .found .now) (k .clear .last .0) (b .pre .0 .2) (b .pre .0 .3) (b .pre .1 .0) (k .clear .ensures))
+    omega (arith, made k .few, made k .is-start, cleared-size (made k))
 
 cast-queue : tie.Need-cast-queue Inv-loop μ-loop
 cast-queue c = search needs
@@ -80,10 +77,8 @@ slice-write-queue c = search needs
 
 loop-holds : tie.Need-loop-holds Inv-loop μ-loop
 loop-holds c =
-    let b = c .before .before .before .before .before .before .before in
-    let a = b .args in
-    first-ranks (a .links .now) (a .count) (a .start) (a .found .now) (c .before .before .clear .last .0) (b .pre .0 .2) (b .pre .0 .3) (b .pre .1 .0)
-    (c .before .before .clear .ensures) (a .queue .now) (b .pre .1 .1)
+    let k = c .before .before in
+    first-ranks (made k) (start k .args .links .now) (start k .args .queue .now) (start k .pre .1 .1)
 
 mul-wide : tie.Need-mul-wide Inv-loop μ-loop
 mul-wide c = omega (arith, tail-small (c .before))
@@ -120,21 +115,24 @@ visit-requires c κs =
     )
 
 add-head : tie.Need-add-head Inv-loop μ-loop
-add-head c = let l = c .before .before .before .before .before .before .before .before .before .before .before in omega (arith, tail-small l, c .before .before .before .before .before .before .before .before .before .before .loop-test .taken)
+add-head c =
+    let b = c .before .before .before .before .before .before .before .before .before .before in
+    omega (arith, tail-small (b .before), b .loop-test .taken)
 
 loop-less : tie.Need-loop-less Inv-loop μ-loop
-loop-less c = let l = c .before .before .before .before .before .before .before .before .before .before .before in omega (arith, tail-small l, c .before .before .before .before .before .before .before .before .before .before .loop-test .taken)
+loop-less c =
+    let b = c .before .before .before .before .before .before .before .before .before .before in
+    omega (arith, tail-small (b .before), b .loop-test .taken)
 
 loop-again : tie.Need-loop-again Inv-loop μ-loop
 loop-again c =
     let v = c .before .before .before .before in
     let w = v .before .before .before .before in
-    let l = w .before .before .before in
-    let b = begin l in
-    subst (λ (s : Frontier). Exploring (t l) (n l) (b .args .start) (drop (n l) (set (cleared l) (b .args .start) 1)) s (l .loop .head + 1) 0)
-    (sym (v .visit .ensures))
-    (next-head (t l) (n l) (b .args .start) _ (few l) (b .pre .0 .1) (some l) (here l) (l .loop .head) (l .loop .inv) (w .before .before .loop-test .taken)
-    (w .wide .result) _ (sym (w .wide .ensures)) refl)
+    let b = w .before .before in
+    let l = b .before in
+    let a = begin l .args in
+    subst (λ (s : Frontier). Exploring (a .links .now) (a .count) (a .start) (past l) s (l .loop .head + 1) 0) (sym (v .visit .ensures))
+    (next-head (ground l) (l .loop .inv) (b .loop-test .taken) (w .wide .result) _ (sym (w .wide .ensures)) refl)
 
 same-length : tie.Need-same-length Inv-loop μ-loop
 same-length c =
@@ -147,11 +145,9 @@ same-length-2 c = c .before .loop .inv .queue-size ∙ sym (begin (c .before) .p
 returns : tie.Need-returns Inv-loop μ-loop
 returns c =
     let l = c .before in
-    let b = begin l in
-    let a = b .args in
-    all-done (t l) (n l) (a .start) _ (few l) (b .pre .0 .1) (some l) (here l) _ _ (l .loop .inv) (b .pre .0 .3) (c .loop-test .left)
-    ∙ ap (λ (z : List ℕ). fewestSteps (graphIn (t l) (n l)) (a .start) ++ z)
-    (rest-kept (t l) (n l) (a .start) (a .found .now) (cleared l) (few l) (b .pre .0 .3) (b .pre .1 .0) (l .before .before .before .clear .ensures))
+    let a = begin l .args in
+    all-done (ground l) (l .loop .inv) (made (wiped l) .is-start) (c .loop-test .left)
+    ∙ ap (λ (z : List ℕ). fewestSteps (graphIn (a .links .now) (a .count)) (a .start) ++ z) (rest-kept (made (wiped l)))
 
 pub explore-spec : {M : Type 1} → statement M
 explore-spec =

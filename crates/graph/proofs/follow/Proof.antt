@@ -12,7 +12,7 @@ abbrev μ-loop : tie.MeasureT-loop
 μ-loop links back count start n way₀ k₀ i₀ way k i = n - i
 
 loop-holds : tie.Need-loop-holds Inv-loop μ-loop
-loop-holds c = follow-none _ _ _ _ _ _ (c .before .before .before .pre .0 .2)
+loop-holds c = follow-none (c .before .before .before .pre .0 .2)
 
 cast-way : tie.Need-cast-way Inv-loop μ-loop
 cast-way c = search needs
@@ -42,18 +42,13 @@ loop-again : tie.Need-loop-again Inv-loop μ-loop
 loop-again c =
     let l = c .before .before in
     let b = l .before .before .before .before in
-    let a = b .args in
-    follow-next (a .links .now) (a .back .now) (a .count) (a .n) (a .start) (a .way .now) (l .loop .way) (l .loop .k) (l .loop .i) (l .loop .inv)
-    (c .before .loop-test .taken) (b .pre .1 .0) (c .lowest .result) (c .lowest .ensures .0) (c .lowest .ensures .1)
+    follow-next (l .loop .inv) (c .before .loop-test .taken) (b .pre .1 .0) (c .lowest .result) (c .lowest .ensures .0) (c .lowest .ensures .1)
 
 same-length : tie.Need-same-length Inv-loop μ-loop
 same-length c = search needs
 
 returns : tie.Need-returns Inv-loop μ-loop
-returns c =
-    let l = c .before in
-    let a = l .before .before .before .before .args in
-    follow-done (a .links .now) (a .back .now) (a .count) (a .n) (a .start) (a .way .now) (l .loop .way) (l .loop .k) (l .loop .i) (l .loop .inv) (c .loop-test .left)
+returns c = follow-done (c .before .loop .inv) (c .loop-test .left)
 
 pub follow-spec : {M : Type 1} → statement M
 follow-spec =

@@ -13,8 +13,19 @@ Inv-loop links back count k rank best₀ i₀ best i = Lowest links back count k
 abbrev μ-loop : tie.MeasureT-loop
 μ-loop links back count k rank best₀ i₀ best i = 6 - i
 
+-- what is known after i links, and after all six
+abbrev LowestAt : tie.At-loop Inv-loop μ-loop → ℕ → ℕ → Type 0
+LowestAt l =
+    let a = l .before .before .before .args in
+    Lowest (a .links .now) (a .back .now) (a .count) (a .k) (a .rank)
+
+all-looked-at : (l : tie.At-loop Inv-loop μ-loop) → 6 ≤ l .loop .i → LowestAt l 6 (l .loop .best)
+all-looked-at l h =
+    let six : l .loop .i ≡ 6 = omega (arith, l .loop .inv .1) in
+    subst (λ (i : ℕ). LowestAt l i (l .loop .best)) six (l .loop .inv .0)
+
 loop-holds : tie.Need-loop-holds Inv-loop μ-loop
-loop-holds c = (lowest-none _ _ _ _ _, omega arith)
+loop-holds c = (lowest-none, omega arith)
 
 mul-wide : tie.Need-mul-wide Inv-loop μ-loop
 mul-wide c = search needs
@@ -42,34 +53,20 @@ loop-less c = search needs
 
 loop-again : tie.Need-loop-again Inv-loop μ-loop
 loop-again c =
+    let t = c .before .before .before .loop-test .taken in
     let l = c .before .before .before .before in
-    let a = l .before .before .before .args in (
-      lowest-next (a .links .now) (a .back .now) (a .count) (a .k) (a .rank) (l .loop .i) (l .loop .best) (c .before .wide .result) (c .better .result) (l .loop .inv .0)
-          (omega (arith, c .before .before .before .loop-test .taken)) (c .before .wide .ensures) (c .better .ensures),
-      omega (arith, c .before .before .before .loop-test .taken),
-    )
+    (lowest-next (l .loop .inv .0) (omega (arith, t)) (c .before .wide .ensures) (c .better .ensures), omega (arith, t))
 
 returns : tie.Need-returns Inv-loop μ-loop
 returns c =
     let l = c .before .before in
-    let b = l .before .before .before in
-    let a = b .args in
-    let six : l .loop .i ≡ 6 = omega (arith, l .loop .inv .1, c .before .loop-test .left) in
-    let low : Lowest (a .links .now) (a .back .now) (a .count) (a .k) (a .rank) 6 (l .loop .best) = subst (λ (i : ℕ). Lowest (a .links .now) (a .back .now) (a .count) (a .k) (a .rank) i (l .loop .best)) six (l .loop .inv .0) in (
-      none-found (a .links .now) (a .back .now) (a .count) (a .k) (a .rank) (subst (Lowest (a .links .now) (a .back .now) (a .count) (a .k) (a .rank) 6) (c .if1 .taken) low),
-      omega (arith, b .pre .2),
-    )
+    let low = all-looked-at l (c .before .loop-test .left) in
+    (none-found (subst (LowestAt l 6) (c .if1 .taken) low), omega (arith, l .before .before .before .pre .2))
 
 returns-2 : tie.Need-returns-2 Inv-loop μ-loop
 returns-2 c =
-    let l = c .before .before in
-    let b = l .before .before .before in
-    let a = b .args in
-    let six : l .loop .i ≡ 6 = omega (arith, l .loop .inv .1, c .before .loop-test .left) in
-    let low : Lowest (a .links .now) (a .back .now) (a .count) (a .k) (a .rank) 6 (l .loop .best) = subst (λ (i : ℕ). Lowest (a .links .now) (a .back .now) (a .count) (a .k) (a .rank) i (l .loop .best)) six (l .loop .inv .0) in (
-      lowest-found (a .links .now) (a .back .now) (a .count) (a .k) (a .rank) (l .loop .best) low (c .if1 .left),
-      omega (arith, low .upto, c .if1 .left),
-    )
+    let low = all-looked-at (c .before .before) (c .before .loop-test .left) in
+    (lowest-found low (c .if1 .left), omega (arith, low .upto, c .if1 .left))
 
 pub lowest-spec : {M : Type 1} → statement M
 lowest-spec =

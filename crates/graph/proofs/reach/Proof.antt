@@ -3,7 +3,7 @@ use Prim.Native.Nat.{_+_}
 use native.Mathlib.Omega.{arith}
 use lib.Dec.{eqb}
 use lib.ListN.{getD, set}
-use Rattle.graph.proofs.Visiting.{one-at-most}
+use Rattle.graph.proofs.Counting.{bit-small}
 use borrow.Author.Needs.{needs}
 use Rattle.graph.proofs.reach.Statement.{statement}
 use Rattle.graph.proofs.reach.Tie as tie
@@ -38,7 +38,7 @@ newly-requires c κs = search needs
 add-result : tie.Need-add-result
 add-result c =
     let a = c .before .before .before .before .before .args in
-    omega (arith, c .newly .ensures, one-at-most (eqb (getD (a .found .now) (a .j) 0) 0))
+    omega (arith, c .newly .ensures, bit-small (eqb (getD (a .found .now) (a .j) 0) 0))
 
 same-length : tie.Need-same-length
 same-length c = search needs

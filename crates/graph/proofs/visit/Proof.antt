@@ -6,13 +6,11 @@ use native.Mathlib.Omega.{arith}
 use lib.Dec.{eqb}
 use lib.ListN.{length, getD, length-set}
 use Rattle.graph.specs.Table.{linkAt, Frontier, reached, visited}
-use Rattle.graph.proofs.Visiting.{one-at-most, none-visited, one-more}
+use Rattle.graph.proofs.Counting.{bit-small}
+use Rattle.graph.proofs.Visiting.{frontier, none-visited, one-more}
 use borrow.Author.Needs.{needs}
 use Rattle.graph.proofs.visit.Statement.{statement}
 use Rattle.graph.proofs.visit.Tie as tie
-
-abbrev frontier : ℕ → List ℕ → List ℕ → Frontier
-frontier tail found queue = record { tail = tail; found = found; queue = queue }
 
 abbrev Inv-loop : tie.InvT-loop
 Inv-loop links k rank found₀ queue₀ tail end₀ i₀ found queue end i =
@@ -70,7 +68,7 @@ loop-again c =
     let queue-is = ap (λ (s : Frontier). length (s .queue)) (r .reach .ensures) in
     let tail-is = ap (λ (s : Frontier). s .tail) (r .reach .ensures) in (
       omega arith,
-      omega (arith, tail-is, v .1, one-at-most (eqb (getD (l .loop .found) (w .wide .result) 0) 0)),
+      omega (arith, tail-is, v .1, bit-small (eqb (getD (l .loop .found) (w .wide .result) 0) 0)),
       found-is ∙ length-set (l .loop .found) (w .wide .result) _ ∙ v .2,
       queue-is ∙ length-set (l .loop .queue) (l .loop .end) (w .wide .result) ∙ v .3,
       r .reach .ensures ∙ ap (λ (j : ℕ). reached (a .rank) j (frontier (l .loop .end) (l .loop .found) (l .loop .queue))) (w .wide .ensures)

@@ -39,7 +39,8 @@ returns c =
     f .follow .ensures
     ∙ ap (λ (l : List ℕ). l ++ drop (a .n) (a .way .now))
     (followed-same (a .links .now) (x .explore .last .1 .1 .1 .0) (fewestSteps g (a .end)) (a .count)
-    (λ j h. ap (λ (l : List ℕ). getD l j 0) (x .explore .ensures) ∙ List·getD-append (fewestSteps g (a .end)) _ 0 j (let s = stepped g (a .end) .sized in omega arith))
+    (λ j h. ap (λ (l : List ℕ). getD l j 0) (x .explore .ensures)
+    ∙ List·getD-append (fewestSteps g (a .end)) _ 0 j (let s = stepped g (a .end) .sized in omega arith))
     (a .n) (a .start))
 
 pub write-way-spec : {M : Type 1} → statement M
