@@ -64,7 +64,8 @@ inAmended ta a b r = record { shape = leaf; soundings = allWet; amendments = ta;
 
 unfoldable pub ways : List Passed
 ways =
-    -- all wet, so open at the box, but 12 is not given; from corner 0 to corner 7: of the six ways of three steps the lowest; what is past way and corners stays
+    -- all wet, from corner 0 to corner 7: of the six ways of three steps the lowest; what is past way and corners stays. The pool is open at the box, and 12 is
+    -- not given.
     lent allWet 0 0 7 9 9 (0 ∷ 4 ∷ 0 ∷ 1 ∷ 3 ∷ 7 ∷ replicate 5 old ++ 1 ∷ 2 ∷ 2 ∷ 3 ∷ 2 ∷ 3 ∷ 3 ∷ 4 ∷ old ∷ []) ∷
     -- corners 0 and 2 dry: there, and back, which is not the same turned round
     inLeaf (at (origin ∷ place 0 1024 0 ∷ []) minusOne one) 1 6 (0 ∷ 4 ∷ 1 ∷ 3 ∷ 7 ∷ 6 ∷ replicate 4 old ++ 0 ∷ 1 ∷ 0 ∷ 2 ∷ 3 ∷ 2 ∷ 4 ∷ 3 ∷ []) ∷

@@ -150,8 +150,8 @@ fn find_accepted(
     requires { ⌜ accepted (now cells) (now corners) (asked .clearance) ≡ true ⌝ }
     requires { ⌜ (asked .start < recordCount (now corners)) × (asked .end < recordCount (now corners)) ⌝ }
     requires { ⌜ (recordCount (now corners) ≤ length (now way)) × (recordCount (now corners) ≤ length (now work)) ⌝ }
-    ensures { λ r. ⌜ Shows (shownOver (cornerGraph (now (cells .entry)) (now (corners .entry)) (asked .clearance)) [] (asked .start) (asked .end) (now (way .entry))
-        (now (work .entry))) r (now (way .exit)) (now (work .exit)) ⌝ }
+    ensures { λ r. ⌜ Shows (shownOver (cornerGraph (now (cells .entry)) (now (corners .entry)) (asked .clearance)) [] (asked .start) (asked .end)
+        (now (way .entry)) (now (work .entry))) r (now (way .exit)) (now (work .exit)) ⌝ }
 {
     let mut slots = [edges::table::EMPTY; 43848];
     let mut links = [graph::NONE; graph::LINKS];
