@@ -10,8 +10,9 @@ use lib.ListN.{getD}
 use borrow.Author.Tests.{ltb-true, ltb-false, eqb-true, eqb-false}
 use Rattle.base.specs.Lists.{first, count}
 use Rattle.base.proofs.Tests.{and→, →and, below, eq→eqb}
-use Rattle.base.proofs.Lists.{any→in, in→any, in-count, count-in}
+use Rattle.base.proofs.Lists.{any→in, in-count}
 use Rattle.graph.specs.Table.{linkAt, graphIn, lowestLink}
+use Rattle.graph.proofs.Searching.{linked}
 use Rattle.graph.proofs.Ways.{first-lowest}
 
 first-none : (f : ℕ → Bool) (n i : ℕ) → ((j : ℕ) → i ≤ j → j < i + n → T (f j) → ⊥) → first f 0 (count i n) ≡ 0
@@ -35,8 +36,7 @@ pub record Lowest (t r : List ℕ) (n k m i best : ℕ) : Type 0 where
 linked-test : (t r : List ℕ) (n k m p : ℕ) → p < 6 → getD r (linkAt t k p) 0 ≡ m → T (test t r n k m (linkAt t k p))
 linked-test t r n k m p h e =
     let j = linkAt t k p in
-    →and (eqb (getD r j 0) m) (graphIn t n .joined k j) (eq→eqb (getD r j 0) m e)
-    (in→any (λ i. eqb (linkAt t k i) j) (count 0 6) p (count-in 6 0 p (omega arith) (omega arith)) (eq→eqb j j refl))
+    →and (eqb (getD r j 0) m) (graphIn t n .joined k j) (eq→eqb (getD r j 0) m e) (linked t n k p h)
 
 module _ {t r : List ℕ} {n k m : ℕ} where
   pub lowest-none : Lowest t r n k m 0 n
@@ -72,7 +72,9 @@ module _ {t r : List ℕ} {n k m : ℕ} where
           subst (Lowest t r n k m (i + 1)) (sym (e ∙ (λ d. cond (p d && q d) j best))) (record {
             upto = omega arith;
             lower = each j (omega arith) (λ u v. omega arith);
-            one-of = inr (subst (λ (z : ℕ). T (test t r n k m z)) (sym l) (linked-test t r n k m i h (ap (λ (z : ℕ). getD r z 0) (sym l) ∙ eqb-true (getD r j 0) m q)));
+            one-of =
+                let ranked = ap (λ (z : ℕ). getD r z 0) (sym l) ∙ eqb-true (getD r j 0) m q in
+                inr (subst (λ (z : ℕ). T (test t r n k m z)) (sym l) (linked-test t r n k m i h ranked));
           })
 
   least : {best : ℕ} → Lowest t r n k m 6 best → (j : ℕ) → j < n → T (test t r n k m j) → best ≤ j

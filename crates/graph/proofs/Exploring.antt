@@ -104,8 +104,7 @@ module _ {t : List ℕ} {n start : ℕ} {past : List ℕ} (ground : Grounded t n
           let same : set (s .found) link (at (s .found) link) ≡ s .found = set-same (s .found) link link-listed in
           let more : 1 ≤ at (s .found) link = positive (at (s .found) link) (eqb-false (at (s .found) link) 0 f) in
           let m : 1 ≤ at (s .found) (linkAt t (at (s .queue) head) i) = subst (λ (x : ℕ). 1 ≤ at (s .found) x) (sym head-link) more in
-          let u = queue-kept t n start (at (s .found)) (at (s .queue)) (at queue-then) head (suc i) (s .tail) earlier
-          (passed-over t n start (at (s .found)) (at (s .queue)) head i (s .tail) (e .known) h (λ z. m)) in
+          let u = queue-kept (passed-over (e .known) h (λ z. m)) (at queue-then) earlier in
           let tail-stays : s .tail ≡ s .tail + 0 = omega arith in
           subst (λ (l : List ℕ). Exploring t n start past (record { tail = s .tail + 0; found = l; queue = queue-then }) head (suc i)) (sym same)
           (record {
@@ -127,8 +126,7 @@ module _ {t : List ℕ} {n start : ℕ} {past : List ℕ} (ground : Grounded t n
           let q-size = e .queue-size in
           let tail-small = tail-few in
           let few = ground .few in
-          let u = found t n start (at (s .found)) (at (s .queue)) head i (s .tail) (e .known) h small
-          (let z = head-link in omega arith) (ap (at (s .found)) head-link ∙ none)
+          let u = found (e .known) h small (let z = head-link in omega arith) (ap (at (s .found)) head-link ∙ none)
           (at (set (s .found) link rank)) (at queue-then)
           (λ x d. getD-set-other (s .found) link x rank 0 (λ z. d (z ∙ sym head-link)))
           (ap (at (set (s .found) link rank)) head-link ∙ getD-set-same (s .found) link rank 0 (omega arith) ∙ sym next
@@ -192,7 +190,7 @@ module _ {t : List ℕ} {n start : ℕ} {past : List ℕ} (ground : Grounded t n
         let r = visited t rank k 6 s in
         record {
           known = subst (λ (x : ℕ). Searching t n start (at (r .found)) (at (r .queue)) x 0 (r .tail)) d
-              (head-done t n start (at (r .found)) (at (r .queue)) head (r .tail) (v .exploring .known) (v .grown));
+              (head-done (v .exploring .known) (v .grown));
           queue-size = v .exploring .queue-size;
           size = v .exploring .size;
           kept = v .exploring .kept;
@@ -202,7 +200,7 @@ module _ {t : List ℕ} {n start : ℕ} {past : List ℕ} (ground : Grounded t n
   all-done {s} {head} {i} e a h =
       let z = e .size in
       let few = ground .few in
-      let u = last-turn t n start (at (s .found)) (at (s .queue)) head i (s .tail) (e .known) a h (take n (s .found))
+      let u = last-turn (e .known) a h (take n (s .found))
       (length-take-le n (s .found) (omega arith)) (λ k l. getD-take n (s .found) k 0 l) in
       let v = stepped-same (graphIn t n) start (take n (s .found)) (fewestSteps (graphIn t n) start) u (stepped (graphIn t n) start) in
       sym (take-append-drop n (s .found)) ∙ ap (λ (l : List ℕ). l ++ drop n (s .found)) v
@@ -247,7 +245,7 @@ module _ {n start : ℕ} {lent cleared : List ℕ} (made : Cleared n start lent 
       let few = made .few in
       let inside = made .is-start in
       record {
-        known = first-turn t n start (at (set cleared start 1)) (at (set queue 0 start)) (made .is-start) (getD-set-same queue 0 start 0 (omega arith))
+        known = first-turn (at (set cleared start 1)) (at (set queue 0 start)) (made .is-start) (getD-set-same queue 0 start 0 (omega arith))
             (getD-set-same cleared start 1 0 (omega arith)) none;
         queue-size = length-set queue 0 start ∙ q;
         size = length-set cleared start 1 ∙ cleared-size;

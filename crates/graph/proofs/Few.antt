@@ -1,7 +1,7 @@
 -- No corner has a number above the count of corners.
-use Prim.Native.Nat.{ℕ, zero, suc, _≤_, _<_}
+use Prim.Native.Nat.{ℕ, zero, suc, _≤_}
 use mathlib.Core.Path.{_≡_, refl}
-use mathlib.Core.Logic.{_⊎_, inl, inr}
+use mathlib.Core.Logic.{inl, inr}
 use native.Mathlib.Omega.{arith}
 use lib.ListN.{getD}
 use Rattle.rules.specs.Ways.{Graph, rounds, fewestSteps}
@@ -28,7 +28,7 @@ module _ (graph : Graph) (start k : ℕ) where
       -- a corner that the rounds before have reached
       old : (x : ℕ) → getD (rounds graph start n) k 0 ≡ x → 1 ≤ getD (rounds graph start n) k 0 → getD (rounds graph start (suc n)) k 0 ≤ suc n
       old zero f h = absurd (omega arith)
-      old (suc m) f h = let a = stays-new graph start n (rounds graph start n) known k m f in let b = known .top k in omega arith
+      old (suc m) f h = let a = stays-new known k m f in let b = known .top k in omega arith
 
       reached-before : (m : ℕ) → getD (rounds graph start (suc n)) k 0 ≡ suc m → Enough graph start n (rounds graph start n) →
           1 ≤ getD (rounds graph start n) k 0

@@ -3,17 +3,17 @@ use Prim.Native.Nat.{ℕ, zero, suc, _≤_, _<_}
 use mathlib.Core.Path.{_≡_, refl, sym, ap, _∙_, subst}
 use mathlib.Core.Logic.{_⊎_, inl, inr}
 use mathlib.Core.Bool.{Bool, true, false, not, _&&_, cond}
-use mathlib.Core.List.{List, [], _∷_, map}
+use mathlib.Core.List.{List, map}
 use native.Mathlib.Omega.{arith}
 use lib.Dec.{T, eqb, eqb→eq, ltb, ltb→lt, T-not}
 use lib.ListN.{length, getD, List·getD-eq-default}
 use borrow.Author.Tests.{eq-eqb, ne-eqb, eqb-true}
-use Rattle.base.specs.Lists.{any, sum, count, bit}
+use Rattle.base.specs.Lists.{any, count, bit}
 use Rattle.base.proofs.Tests.{and→, →and, below, either, true→, eq→eqb, not-both}
-use Rattle.base.proofs.Lists.{In, any→in, in→any, count-in, length-count}
+use Rattle.base.proofs.Lists.{any→in, in→any, count-in}
 use Rattle.base.proofs.Below.{get-table, length-table}
-use Rattle.base.proofs.Sums.{sum-le, sum-one, in-sum}
-use Rattle.rules.specs.Ways.{Graph, passable, reachedIn, rounds, fewestSteps}
+use Rattle.base.proofs.Sums.{in-sum}
+use Rattle.rules.specs.Ways.{Graph, passable, reachedIn, rounds}
 use Rattle.graph.proofs.Counting.{sum-more, reached, mark, no-mark, bit-small}
 use Rattle.graph.proofs.Walks.{Walk, walk-first, walk-last, walk-on, walk-before}
 
@@ -83,7 +83,7 @@ module _ (graph : Graph) (start : ℕ) where
 
 -- ---- one round more
 
-module _ (graph : Graph) (start n : ℕ) (r : List ℕ) (known : Known graph start n r) where
+module _ {graph : Graph} {start n : ℕ} {r : List ℕ} (known : Known graph start n r) where
   abbrev pub next : ℕ → ℕ
   next = reachedIn graph r (suc (suc n))
 
@@ -207,10 +207,10 @@ reachedCount graph r = reached (λ k. getD r k 0) (graph .size)
 abbrev pub Closed : Graph → ℕ → List ℕ → Type 0
 Closed graph start r = (k v : ℕ) → Walk graph v start k → 1 ≤ getD r k 0
 
-module _ (graph : Graph) (start n : ℕ) (r : List ℕ) (known : Known graph start n r) where
+module _ {graph : Graph} {start n : ℕ} {r : List ℕ} (known : Known graph start n r) where
   -- the number of a corner after one round more
   abbrev after-next : ℕ → ℕ
-  after-next k = getD (new graph start n r known) k 0
+  after-next k = getD (new known) k 0
 
   abbrev fresh-at : ℕ → Bool
   fresh-at k = eqb (getD r k 0) 0 && not (eqb (after-next k) 0)
@@ -221,12 +221,12 @@ module _ (graph : Graph) (start n : ℕ) (r : List ℕ) (known : Known graph sta
       go : (x : ℕ) → getD r k 0 ≡ x → bit (not (eqb (getD r k 0) 0)) ≤ bit (not (eqb (after-next k) 0))
       go zero e = let a = no-mark (getD r k 0) e in omega arith
       go (suc m) e =
-          let a = stays-new graph start n r known k m e in
+          let a = stays-new known k m e in
           let b = mark (getD r k 0) (omega arith) in
           let c = mark (after-next k) (omega arith) in
           omega arith
 
-  one-more : T (any fresh-at (count 0 (graph .size))) → reachedCount graph r < reachedCount graph (new graph start n r known)
+  one-more : T (any fresh-at (count 0 (graph .size))) → reachedCount graph r < reachedCount graph (new known)
   one-more t =
       let (k, i, f) = any→in fresh-at (count 0 (graph .size)) t in
       let (a, b) = and→ (eqb (getD r k 0) 0) (not (eqb (after-next k) 0)) f in
@@ -246,18 +246,18 @@ module _ (graph : Graph) (start n : ℕ) (r : List ℕ) (known : Known graph sta
       go j l zero f h zero g = absurd (omega arith)
       go j l (suc m) f h zero g =
           let p = walk-last graph (suc v) start k w in
-          let a = met-next graph start n r known j k m f l p in
+          let a = met-next known j k m f l p in
           let b : T (not (eqb (after-next k) 0)) = subst T (sym (ap not (ne-eqb (after-next k) 0 (λ z. omega arith)))) tt in
           let c = →and (eqb (getD r k 0) 0) (not (eqb (after-next k) 0)) (eq→eqb (getD r k 0) 0 g) b in
           let d = in→any fresh-at (count 0 (graph .size)) k (count-in (graph .size) 0 k (omega arith) (let i = inside graph k p in omega arith)) c in
           absurd (not-both d e)
 
-  still-closed : Closed graph start r → Closed graph start (new graph start n r known)
+  still-closed : Closed graph start r → Closed graph start (new known)
   still-closed c k v w = go (getD r k 0) refl (c k v w)
     where
       go : (x : ℕ) → getD r k 0 ≡ x → 1 ≤ getD r k 0 → 1 ≤ after-next k
       go zero f h = absurd (omega arith)
-      go (suc m) f h = let a = stays-new graph start n r known k m f in omega arith
+      go (suc m) f h = let a = stays-new known k m f in omega arith
 
 -- all corners are found, or more than n
 abbrev pub Enough : Graph → ℕ → ℕ → List ℕ → Type 0
@@ -286,17 +286,17 @@ module _ (graph : Graph) (start : ℕ) where
     where
       go : After graph start n (rounds graph start n) → After graph start (suc n) (rounds graph start (suc n))
       go a = record {
-        known = known-next graph start n (rounds graph start n) (a .known);
+        known = known-next (a .known);
         enough = pick (a .enough) (either (any fresh? (count 0 (graph .size))));
       }
         where
           fresh? : ℕ → Bool
-          fresh? = fresh-at graph start n (rounds graph start n) (a .known)
+          fresh? = fresh-at (a .known)
 
           pick : Enough graph start n (rounds graph start n) →
               T (any fresh? (count 0 (graph .size))) ⊎ (any fresh? (count 0 (graph .size)) ≡ false) →
               Enough graph start (suc n) (rounds graph start (suc n))
-          pick (inl c) f = inl (still-closed graph start n (rounds graph start n) (a .known) c)
-          pick (inr c) (inl f) = inr (let b = one-more graph start n (rounds graph start n) (a .known) f in omega arith)
+          pick (inl c) f = inl (still-closed (a .known) c)
+          pick (inr c) (inl f) = inr (let b = one-more (a .known) f in omega arith)
           pick (inr c) (inr f) =
-              inl (still-closed graph start n (rounds graph start n) (a .known) (all-found graph start n (rounds graph start n) (a .known) f))
+              inl (still-closed (a .known) (all-found (a .known) f))

@@ -11,8 +11,8 @@ use lib.ListN.{length, getD, List·getD-eq-default}
 use borrow.Author.Tests.{eq-eqb, ne-eqb, eqb-false}
 use Rattle.base.specs.Lists.{sum, count, bit}
 use Rattle.base.proofs.Tests.{→and, below, either, eq→eqb}
-use Rattle.base.proofs.Lists.{In, any→in, in→any, in-count, count-in, length-count}
-use Rattle.base.proofs.Sums.{sum-le, sum-one, sum-same, sum-zero}
+use Rattle.base.proofs.Lists.{In, any→in, in→any, in-count, count-in}
+use Rattle.base.proofs.Sums.{sum-same, sum-zero}
 use Rattle.rules.specs.Ways.{passable}
 use Rattle.graph.specs.Table.{linkAt, graphIn}
 use Rattle.graph.proofs.Counting.{reached, no-mark, reached-more, reached-few}
@@ -45,183 +45,185 @@ pub record Searching (t : List ℕ) (n start : ℕ) (f q : ℕ → ℕ) (head i 
 
 -- ---- the turns of the search
 
-module _ (t : List ℕ) (n start : ℕ) where
-  linked : (j p : ℕ) → p < 6 → T (graphIn t n .joined j (linkAt t j p))
-  linked j p h =
-      let k = linkAt t j p in
-      in→any (λ i. eqb (linkAt t j i) k) (count 0 6) p (count-in 6 0 p (omega arith) (omega arith)) (eq→eqb k k refl)
+-- a corner is joined to each of its links
+pub linked : (t : List ℕ) (n j p : ℕ) → p < 6 → T (graphIn t n .joined j (linkAt t j p))
+linked t n j p h =
+    let k = linkAt t j p in
+    in→any (λ i. eqb (linkAt t j i) k) (count 0 6) p (count-in 6 0 p (omega arith) (omega arith)) (eq→eqb k k refl)
 
-  corner-passes : (k : ℕ) → k < n → T (passable (graphIn t n) k)
-  corner-passes k h = →and (ltb k n) true (lt→ltb k n h) tt
+corner-passes : (t : List ℕ) (n k : ℕ) → k < n → T (passable (graphIn t n) k)
+corner-passes t n k h = →and (ltb k n) true (lt→ltb k n h) tt
 
-  module _ (f q : ℕ → ℕ) (head i tail : ℕ) (known : Searching t n start f q head i tail) where
-    pub room : (j : ℕ) → j < n → f j ≡ 0 → tail < n
-    room j h e = let a = reached-few f n j h e in let b = known .counted in omega arith
+module _ {t : List ℕ} {n start : ℕ} {f q : ℕ → ℕ} {head i tail : ℕ} (known : Searching t n start f q head i tail) where
+  pub room : (j : ℕ) → j < n → f j ≡ 0 → tail < n
+  room j h e = let a = reached-few f n j h e in let b = known .counted in omega arith
 
-    module _ (h : head < tail) where
-      abbrev link : ℕ
-      link = linkAt t (q head) i
+  module _ (h : head < tail) where
+    abbrev link : ℕ
+    link = linkAt t (q head) i
 
-      -- what is known of the links of the corner at the head, with one more
-      partly-more : (g : ℕ → ℕ) → ((k : ℕ) → 1 ≤ f k → g k ≡ f k) → (link < n → After (f (q head)) (g link)) →
-          (p : ℕ) → p < suc i → linkAt t (q head) p < n → After (f (q head)) (g (linkAt t (q head) p))
-      partly-more g same last p l o = go (below p i)
+    -- what is known of the links of the corner at the head, with one more
+    partly-more : (g : ℕ → ℕ) → ((k : ℕ) → 1 ≤ f k → g k ≡ f k) → (link < n → After (f (q head)) (g link)) →
+        (p : ℕ) → p < suc i → linkAt t (q head) p < n → After (f (q head)) (g (linkAt t (q head) p))
+    partly-more g same last p l o = go (below p i)
+      where
+        go : (p < i) ⊎ (i ≤ p) → After (f (q head)) (g (linkAt t (q head) p))
+        go (inl a) =
+            let b = known .partly p h a o in
+            subst (After (f (q head))) (sym (same (linkAt t (q head) p) (b .some))) b
+        go (inr a) =
+            let e : i ≡ p = omega arith in
+            subst (λ (r : ℕ). linkAt t (q head) r < n → After (f (q head)) (g (linkAt t (q head) r))) e last o
+
+    -- a link that is no corner, or that has a number already
+    old-link : (link < n → 1 ≤ f link) → link < n → After (f (q head)) (f link)
+    old-link g l =
+        let (x, a, e) = known .listed link l (g l) in
+        let b = known .close h x a in
+        record { some = g l; near = subst (λ (k : ℕ). f k ≤ f (q head) + 1) e b }
+
+    pub passed-over : (link < n → 1 ≤ f link) → Searching t n start f q head (suc i) tail
+    passed-over g = record {
+      corner = known .corner;
+      ranked = known .ranked;
+      listed = known .listed;
+      counted = known .counted;
+      rising = known .rising;
+      close = known .close;
+      deep = known .deep;
+      there = known .there;
+      done = known .done;
+      partly = λ p u. partly-more f (λ k a. refl) (old-link g) p;
+      begun = known .begun;
+      upto = known .upto;
+    }
+
+    -- a link that is reached now
+    module _ (small : i < 6) (inside : link < n) (none : f link ≡ 0) (ranks places : ℕ → ℕ)
+        (others : (k : ℕ) → (k ≡ link → ⊥) → ranks k ≡ f k) (rank : ranks link ≡ f (q head) + 1)
+        (queue : (x : ℕ) → x < tail → places x ≡ q x) (added : places tail ≡ link) where
+      same : (k : ℕ) → 1 ≤ f k → ranks k ≡ f k
+      same k a = others k (λ e. let b = ap f e in omega arith)
+
+      -- the places of the queue as before, and the new one
+      old-rank : (x : ℕ) → x < tail → ranks (places x) ≡ f (q x)
+      old-rank x a = ap ranks (queue x a) ∙ same (q x) (known .ranked x a)
+
+      new-rank : ranks (places tail) ≡ f (q head) + 1
+      new-rank = ap ranks added ∙ rank
+
+      each : (P : ℕ → Type 0) → ((x : ℕ) → x < tail → P x) → P tail → (x : ℕ) → x < suc tail → P x
+      each P a b x c = go (below x tail)
         where
-          go : (p < i) ⊎ (i ≤ p) → After (f (q head)) (g (linkAt t (q head) p))
-          go (inl a) =
-              let b = known .partly p h a o in
-              subst (After (f (q head))) (sym (same (linkAt t (q head) p) (b .some))) b
-          go (inr a) =
-              let e : i ≡ p = omega arith in
-              subst (λ (r : ℕ). linkAt t (q head) r < n → After (f (q head)) (g (linkAt t (q head) r))) e last o
+          go : (x < tail) ⊎ (tail ≤ x) → P x
+          go (inl d) = a x d
+          go (inr d) = let e : tail ≡ x = omega arith in subst P e b
 
-      -- a link that is no corner, or that has a number already
-      old-link : (link < n → 1 ≤ f link) → link < n → After (f (q head)) (f link)
-      old-link g l =
-          let (x, a, e) = known .listed link l (g l) in
-          let b = known .close h x a in
-          record { some = g l; near = subst (λ (k : ℕ). f k ≤ f (q head) + 1) e b }
+      head-rank : ranks (places head) ≡ f (q head)
+      head-rank = old-rank head h
 
-      pub passed-over : (link < n → 1 ≤ f link) → Searching t n start f q head (suc i) tail
-      passed-over g = record {
-        corner = known .corner;
-        ranked = known .ranked;
-        listed = known .listed;
-        counted = known .counted;
-        rising = known .rising;
-        close = known .close;
-        deep = known .deep;
-        there = known .there;
-        done = known .done;
-        partly = λ p u. partly-more f (λ k a. refl) (old-link g) p;
-        begun = known .begun;
-        upto = known .upto;
+      corner-now : (x : ℕ) → x < suc tail → places x < n
+      corner-now = each (λ x. places x < n) (λ x a. let e = queue x a in let b = known .corner x a in omega arith) (let e = added in omega arith)
+
+      ranked-now : (x : ℕ) → x < suc tail → 1 ≤ ranks (places x)
+      ranked-now =
+          each (λ x. 1 ≤ ranks (places x)) (λ x a. let e = old-rank x a in let b = known .ranked x a in omega arith) (let e = new-rank in omega arith)
+
+      listed-now : (k : ℕ) → k < n → 1 ≤ ranks k → (x : ℕ) × (x < suc tail) × (places x ≡ k)
+      listed-now k a b = go (either (eqb k link))
+        where
+          go : T (eqb k link) ⊎ (eqb k link ≡ false) → (x : ℕ) × (x < suc tail) × (places x ≡ k)
+          go (inl d) = (tail, omega arith, added ∙ sym (eqb→eq k link d))
+          go (inr d) =
+              let e = others k (eqb-false k link d) in
+              let (x, l, g) = known .listed k a (omega arith) in
+              (x, omega arith, queue x l ∙ g)
+
+      top : (x : ℕ) → x < tail → f (q x) ≤ f (q head) + 1
+      top = known .close h
+
+      rising-now : (x y : ℕ) → x ≤ y → y < suc tail → ranks (places x) ≤ ranks (places y)
+      rising-now x y a b = go (below y tail) (below x tail)
+        where
+          go : (y < tail) ⊎ (tail ≤ y) → (x < tail) ⊎ (tail ≤ x) → ranks (places x) ≤ ranks (places y)
+          go (inl c) d =
+              let e : x < tail = omega arith in
+              let u = old-rank x e in
+              let v = old-rank y c in
+              let w = known .rising x y a c in
+              omega arith
+          go (inr c) (inl d) =
+              let e : tail ≡ y = omega arith in
+              let u = old-rank x d in
+              let v = top x d in
+              let w = ap (λ (z : ℕ). ranks (places z)) e in
+              let r = new-rank in
+              omega arith
+          go (inr c) (inr d) =
+              let e : x ≡ y = omega arith in
+              let w = ap (λ (z : ℕ). ranks (places z)) e in
+              omega arith
+
+      close-now : (x : ℕ) → x < suc tail → ranks (places x) ≤ ranks (places head) + 1
+      close-now =
+          let e = head-rank in
+          each (λ x. ranks (places x) ≤ ranks (places head) + 1) (λ x a. let u = old-rank x a in let v = top x a in omega arith)
+          (let u = new-rank in omega arith)
+
+      deep-now : (x : ℕ) → x < suc tail → ranks (places x) ≤ x + 1
+      deep-now =
+          each (λ x. ranks (places x) ≤ x + 1) (λ x a. let u = old-rank x a in let v = known .deep x a in omega arith)
+          (let u = new-rank in let v = known .deep head h in omega arith)
+
+      there-now : (k m : ℕ) → k < n → ranks k ≡ suc m → Walk (graphIn t n) m start k
+      there-now k m a b = go (either (eqb k link))
+        where
+          go : T (eqb k link) ⊎ (eqb k link ≡ false) → Walk (graphIn t n) m start k
+          go (inr d) = known .there k m a (sym (others k (eqb-false k link d)) ∙ b)
+          go (inl d) =
+              let e = eqb→eq k link d in
+              let u : f (q head) ≡ m = (let v = ap ranks e in let w = rank in omega arith) in
+              subst (λ (z : ℕ). Walk (graphIn t n) m start z) (sym e) (step m u)
+            where
+              step : (m : ℕ) → f (q head) ≡ m → Walk (graphIn t n) m start link
+              step zero u = let v = known .ranked head h in absurd (omega arith)
+              step (suc m) u =
+                  walk-on (graphIn t n) m start (q head) link (known .there (q head) m (known .corner head h) u) (linked t n (q head) i small)
+                  (corner-passes t n link inside)
+
+      pub found : Searching t n start ranks places head (suc i) (suc tail)
+      found = record {
+        corner = corner-now;
+        ranked = ranked-now;
+        listed = listed-now;
+        counted = let a = reached-more f ranks n link inside none (let e = rank in omega arith) others in let b = known .counted in omega arith;
+        rising = rising-now;
+        close = λ a. close-now;
+        deep = deep-now;
+        there = there-now;
+        done = λ x p a b l.
+            let c : x < tail = omega arith in
+            let e = queue x c in
+            let before : linkAt t (q x) p < n = subst (λ (z : ℕ). linkAt t z p < n) e l in
+            let d = known .done x p a b before in
+            let u : After (f (q x)) (ranks (linkAt t (q x) p)) = subst (After (f (q x))) (sym (same (linkAt t (q x) p) (d .some))) d in
+            let v = old-rank x c in
+            subst (λ (z : ℕ). After z (ranks (linkAt t (places x) p))) (sym v) (subst (λ (z : ℕ). After (f (q x)) (ranks (linkAt t z p))) (sym e) u);
+        partly = λ p a b l.
+            let e = queue head h in
+            let before : linkAt t (q head) p < n = subst (λ (z : ℕ). linkAt t z p < n) e l in
+            let u = partly-more ranks same (λ o. record { some = let w = rank in omega arith; near = let w = rank in omega arith }) p b before in
+            subst (λ (z : ℕ). After z (ranks (linkAt t (places head) p))) (sym head-rank)
+            (subst (λ (z : ℕ). After (f (q head)) (ranks (linkAt t z p))) (sym e) u);
+        begun = same start (let b = known .begun in omega arith) ∙ known .begun;
+        upto = omega arith;
       }
 
-      -- a link that is reached now
-      module _ (small : i < 6) (inside : link < n) (none : f link ≡ 0) (ranks places : ℕ → ℕ)
-          (others : (k : ℕ) → (k ≡ link → ⊥) → ranks k ≡ f k) (rank : ranks link ≡ f (q head) + 1)
-          (queue : (x : ℕ) → x < tail → places x ≡ q x) (added : places tail ≡ link) where
-        same : (k : ℕ) → 1 ≤ f k → ranks k ≡ f k
-        same k a = others k (λ e. let b = ap f e in omega arith)
-
-        -- the places of the queue as before, and the new one
-        old-rank : (x : ℕ) → x < tail → ranks (places x) ≡ f (q x)
-        old-rank x a = ap ranks (queue x a) ∙ same (q x) (known .ranked x a)
-
-        new-rank : ranks (places tail) ≡ f (q head) + 1
-        new-rank = ap ranks added ∙ rank
-
-        each : (P : ℕ → Type 0) → ((x : ℕ) → x < tail → P x) → P tail → (x : ℕ) → x < suc tail → P x
-        each P a b x c = go (below x tail)
-          where
-            go : (x < tail) ⊎ (tail ≤ x) → P x
-            go (inl d) = a x d
-            go (inr d) = let e : tail ≡ x = omega arith in subst P e b
-
-        head-rank : ranks (places head) ≡ f (q head)
-        head-rank = old-rank head h
-
-        corner-now : (x : ℕ) → x < suc tail → places x < n
-        corner-now = each (λ x. places x < n) (λ x a. let e = queue x a in let b = known .corner x a in omega arith) (let e = added in omega arith)
-
-        ranked-now : (x : ℕ) → x < suc tail → 1 ≤ ranks (places x)
-        ranked-now =
-            each (λ x. 1 ≤ ranks (places x)) (λ x a. let e = old-rank x a in let b = known .ranked x a in omega arith) (let e = new-rank in omega arith)
-
-        listed-now : (k : ℕ) → k < n → 1 ≤ ranks k → (x : ℕ) × (x < suc tail) × (places x ≡ k)
-        listed-now k a b = go (either (eqb k link))
-          where
-            go : T (eqb k link) ⊎ (eqb k link ≡ false) → (x : ℕ) × (x < suc tail) × (places x ≡ k)
-            go (inl d) = (tail, omega arith, added ∙ sym (eqb→eq k link d))
-            go (inr d) =
-                let e = others k (eqb-false k link d) in
-                let (x, l, g) = known .listed k a (omega arith) in
-                (x, omega arith, queue x l ∙ g)
-
-        top : (x : ℕ) → x < tail → f (q x) ≤ f (q head) + 1
-        top = known .close h
-
-        rising-now : (x y : ℕ) → x ≤ y → y < suc tail → ranks (places x) ≤ ranks (places y)
-        rising-now x y a b = go (below y tail) (below x tail)
-          where
-            go : (y < tail) ⊎ (tail ≤ y) → (x < tail) ⊎ (tail ≤ x) → ranks (places x) ≤ ranks (places y)
-            go (inl c) d =
-                let e : x < tail = omega arith in
-                let u = old-rank x e in
-                let v = old-rank y c in
-                let w = known .rising x y a c in
-                omega arith
-            go (inr c) (inl d) =
-                let e : tail ≡ y = omega arith in
-                let u = old-rank x d in
-                let v = top x d in
-                let w = ap (λ (z : ℕ). ranks (places z)) e in
-                let r = new-rank in
-                omega arith
-            go (inr c) (inr d) =
-                let e : x ≡ y = omega arith in
-                let w = ap (λ (z : ℕ). ranks (places z)) e in
-                omega arith
-
-        close-now : (x : ℕ) → x < suc tail → ranks (places x) ≤ ranks (places head) + 1
-        close-now =
-            let e = head-rank in
-            each (λ x. ranks (places x) ≤ ranks (places head) + 1) (λ x a. let u = old-rank x a in let v = top x a in omega arith) (let u = new-rank in omega arith)
-
-        deep-now : (x : ℕ) → x < suc tail → ranks (places x) ≤ x + 1
-        deep-now =
-            each (λ x. ranks (places x) ≤ x + 1) (λ x a. let u = old-rank x a in let v = known .deep x a in omega arith)
-            (let u = new-rank in let v = known .deep head h in omega arith)
-
-        there-now : (k m : ℕ) → k < n → ranks k ≡ suc m → Walk (graphIn t n) m start k
-        there-now k m a b = go (either (eqb k link))
-          where
-            go : T (eqb k link) ⊎ (eqb k link ≡ false) → Walk (graphIn t n) m start k
-            go (inr d) = known .there k m a (sym (others k (eqb-false k link d)) ∙ b)
-            go (inl d) =
-                let e = eqb→eq k link d in
-                let u : f (q head) ≡ m = (let v = ap ranks e in let w = rank in omega arith) in
-                subst (λ (z : ℕ). Walk (graphIn t n) m start z) (sym e) (step m u)
-              where
-                step : (m : ℕ) → f (q head) ≡ m → Walk (graphIn t n) m start link
-                step zero u = let v = known .ranked head h in absurd (omega arith)
-                step (suc m) u =
-                    walk-on (graphIn t n) m start (q head) link (known .there (q head) m (known .corner head h) u) (linked (q head) i small)
-                    (corner-passes link inside)
-
-        pub found : Searching t n start ranks places head (suc i) (suc tail)
-        found = record {
-          corner = corner-now;
-          ranked = ranked-now;
-          listed = listed-now;
-          counted = let a = reached-more f ranks n link inside none (let e = rank in omega arith) others in let b = known .counted in omega arith;
-          rising = rising-now;
-          close = λ a. close-now;
-          deep = deep-now;
-          there = there-now;
-          done = λ x p a b l.
-              let c : x < tail = omega arith in
-              let e = queue x c in
-              let before : linkAt t (q x) p < n = subst (λ (z : ℕ). linkAt t z p < n) e l in
-              let d = known .done x p a b before in
-              let u : After (f (q x)) (ranks (linkAt t (q x) p)) = subst (After (f (q x))) (sym (same (linkAt t (q x) p) (d .some))) d in
-              let v = old-rank x c in
-              subst (λ (z : ℕ). After z (ranks (linkAt t (places x) p))) (sym v) (subst (λ (z : ℕ). After (f (q x)) (ranks (linkAt t z p))) (sym e) u);
-          partly = λ p a b l.
-              let e = queue head h in
-              let before : linkAt t (q head) p < n = subst (λ (z : ℕ). linkAt t z p < n) e l in
-              let u = partly-more ranks same (λ o. record { some = let w = rank in omega arith; near = let w = rank in omega arith }) p b before in
-              subst (λ (z : ℕ). After z (ranks (linkAt t (places head) p))) (sym head-rank)
-              (subst (λ (z : ℕ). After (f (q head)) (ranks (linkAt t z p))) (sym e) u);
-          begun = same start (let b = known .begun in omega arith) ∙ known .begun;
-          upto = omega arith;
-        }
-
+module _ {t : List ℕ} {n start : ℕ} where
   -- what stands in the queue past its tail does not matter
-  pub queue-kept : (f q places : ℕ → ℕ) (head i tail : ℕ) → ((x : ℕ) → x < tail → places x ≡ q x) → Searching t n start f q head i tail →
-      Searching t n start f places head i tail
-  queue-kept f q places head i tail same known = record {
+  pub queue-kept : {f q : ℕ → ℕ} {head i tail : ℕ} → Searching t n start f q head i tail → (places : ℕ → ℕ) →
+      ((x : ℕ) → x < tail → places x ≡ q x) → Searching t n start f places head i tail
+  queue-kept {f} {q} {head} {i} {tail} known places same = record {
     corner = λ x a. let e = same x a in let b = known .corner x a in omega arith;
     ranked = λ x a. let e = ap f (same x a) in let b = known .ranked x a in omega arith;
     listed = λ k a b. let (x, l, e) = known .listed k a b in (x, l, same x l ∙ e);
@@ -238,8 +240,8 @@ module _ (t : List ℕ) (n start : ℕ) where
   }
 
   -- the corner at the head is done with
-  pub head-done : (f q : ℕ → ℕ) (head tail : ℕ) → Searching t n start f q head 6 tail → head < tail → Searching t n start f q (suc head) 0 tail
-  head-done f q head tail known h = record {
+  pub head-done : {f q : ℕ → ℕ} {head tail : ℕ} → Searching t n start f q head 6 tail → head < tail → Searching t n start f q (suc head) 0 tail
+  head-done {f} {q} {head} {tail} known h = record {
     corner = known .corner;
     ranked = known .ranked;
     listed = known .listed;
@@ -290,7 +292,7 @@ module _ (t : List ℕ) (n start : ℕ) where
           let s = eqb→eq k start d in
           let v = ap f s in
           let z : m ≡ 0 = omega arith in
-          subst (λ (y : ℕ). Walk (graphIn t n) y start k) (sym z) (corner-passes start h, sym s)
+          subst (λ (y : ℕ). Walk (graphIn t n) y start k) (sym z) (corner-passes t n start h, sym s)
       there k m a b (inr d) = let z = none k a (eqb-false k start d) in absurd (omega arith)
 
       counted : 1 ≡ reached f n
@@ -307,9 +309,9 @@ module _ (t : List ℕ) (n start : ℕ) where
               go true u = refl
               go false u = no-mark (f k) (none k (let v = in-count n 0 k i .1 in omega arith) (eqb-false k start u))
 
-  pub last-turn : (f q : ℕ → ℕ) (head i tail : ℕ) → Searching t n start f q head i tail → start < n → tail ≤ head → (r : List ℕ) → length r ≡ n →
+  pub last-turn : {f q : ℕ → ℕ} {head i tail : ℕ} → Searching t n start f q head i tail → start < n → tail ≤ head → (r : List ℕ) → length r ≡ n →
       ((k : ℕ) → k < n → getD r k 0 ≡ f k) → Stepped (graphIn t n) start r
-  last-turn f q head i tail known s h r e same = record {
+  last-turn {f} {q} {head} {i} {tail} known s h r e same = record {
     sized = e;
     there = λ k m a. there k m a (below k n);
     least = least;

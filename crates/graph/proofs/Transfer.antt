@@ -1,14 +1,14 @@
 -- What the search finds over a table of links is what holds over the graph that the table has the links of.
 use Prim.Native.Nat.{ℕ, zero, suc, pred, _≤_, _<_}
 use mathlib.Core.Path.{_≡_, refl, sym, ap, _∙_, subst}
-use mathlib.Core.Logic.{_⊎_, inl, inr}
+use mathlib.Core.Logic.{inl, inr}
 use mathlib.Core.Bool.{Bool, true, false, _&&_, cond}
 use mathlib.Core.List.{List, [], _∷_}
 use native.Mathlib.Omega.{arith}
 use lib.Dec.{T, eqb, eqb→eq, ltb, lt→ltb}
 use lib.ListN.{getD, replicate, length-replicate}
 use Rattle.base.specs.Lists.{first, count}
-use Rattle.base.proofs.Tests.{and→, →and, below, eq→eqb, tests-equal, not-both}
+use Rattle.base.proofs.Tests.{and→, →and, eq→eqb, tests-equal, not-both}
 use Rattle.base.proofs.Lists.{In, any→in, in→any, in-count, count-in}
 use Rattle.base.proofs.Slices.{zeros}
 use Rattle.rules.specs.Ways.{Graph, passable, BothWays, fewestSteps, wayFrom, wayOf}

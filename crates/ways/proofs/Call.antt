@@ -8,6 +8,7 @@ use Rattle.rules.specs.Survey.{recordCount}
 use Rattle.rules.specs.Outputs.{checks}
 use Rattle.rules.specs.Ways.{Graph, Shown, cornerGraph, shownOver, passage, passageAmended}
 use Rattle.rules.specs.declared.Passage.{Passage}
+use Rattle.ways.specs.declared.Asked.{Asked}
 
 -- two corners, and what the two slices hold before
 pub record Voyage : Type 0 where
@@ -36,6 +37,15 @@ pub record Call : Type 0 where
   pub corners : List ℕ
   pub clearance : Float
   pub voyage : Voyage
+
+-- the call that is made of what the code is lent and asked
+abbrev pub callOf : List ℕ → List ℕ → Asked → List ℕ → List ℕ → Call
+callOf cells corners asked way work = record {
+  cells = cells;
+  corners = corners;
+  clearance = asked .clearance;
+  voyage = record { start = asked .start; end = asked .end; way = way; work = work };
+}
 
 -- how many corners there are, and these as a graph
 abbrev pub count : Call → ℕ

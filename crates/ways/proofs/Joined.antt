@@ -2,18 +2,18 @@
 use Prim.Native.Nat.{ℕ, _+_, _*_, _^_, _≤_, _<_}
 use mathlib.Core.Path.{_≡_, refl, sym, ap, _∙_, subst}
 use mathlib.Core.Logic.{_⊎_, inl, inr}
-use mathlib.Core.Bool.{Bool, true, false, _&&_, _||_}
+use mathlib.Core.Bool.{Bool, true, _&&_, _||_}
 use mathlib.Core.List.{List}
 use native.Mathlib.Omega.{arith}
 use lib.Dec.{T, eqb, eqb→eq, ltb, ltb→lt, lt→ltb}
 use lib.Ieee.{Float}
-use lib.ListN.{length, getD}
-use Rattle.base.specs.Lists.{any, count, bit}
+use lib.ListN.{getD}
+use Rattle.base.specs.Lists.{any, count}
 use Rattle.base.specs.Grid.{Place, Axis, X, Y, Z, axes, axisNumber, axisOf, move, same}
-use Rattle.base.proofs.Tests.{and→, →and, or→, or-left, or-right, true→, →true, eq→eqb}
+use Rattle.base.proofs.Tests.{and→, →and, or→, or-left, or-right, →true, eq→eqb}
 use Rattle.base.proofs.Lists.{any→in, in→any, count-in}
 use Rattle.base.proofs.Places.{same→, same-refl, each-axis}
-use Rattle.rules.specs.Survey.{recordCount, Cell, cellsOf, cornersOf, wetAt}
+use Rattle.rules.specs.Survey.{recordCount, cellsOf}
 use Rattle.rules.specs.Edges.{undivided}
 use Rattle.rules.specs.Outputs.{rising, surveyRefusal, accepted, surveyOf}
 use Rattle.records.specs.Keys.{placesOf}

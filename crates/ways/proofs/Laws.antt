@@ -8,7 +8,6 @@ use mathlib.Core.List.{List, [], _∷_, _++_, append-assoc}
 use native.Mathlib.Omega.{arith}
 use lib.Dec.{T, T-not, eqb, eqb→eq}
 use lib.ListN.{length, getD, take, drop}
-use lib.Ieee.{Float}
 use lib.Seq.{take-at, drop-at}
 use borrow.Author.Tests.{eq-eqb, eqb-true, eqb-false, ne-eqb}
 use Rattle.base.specs.Lists.{all}
@@ -16,8 +15,8 @@ use Rattle.base.proofs.Tests.{and→, eq→eqb, not-both, false→}
 use Rattle.base.proofs.Lists.{In, in-append}
 use Rattle.rules.specs.Outputs.{inRange, firstOf, tableChecks, soundingCheck, surveyChecks, checks, written}
 use Rattle.rules.specs.Resounding.{amended, amendmentChecks, checkOrder}
-use Rattle.rules.specs.Ways.{Graph, passable, Way, Best, ExactSteps, BothWays, fewestSteps, wayOf, askedChecks, wayChecks, notShown, cornerGraph, shownOver, passage, passageAmended}
-use Rattle.rules.specs.Ways.{StepsExact, JoinedBothWays, BestShown, Means, PassageMeans, passageOrder, PassageInOrder, NoWayExactly}
+use Rattle.rules.specs.Ways.{Graph, passable, Way, Best, ExactSteps, BothWays, fewestSteps, askedChecks, wayChecks, notShown, cornerGraph, shownOver}
+use Rattle.rules.specs.Ways.{passage, passageAmended, StepsExact, JoinedBothWays, BestShown, Means, PassageMeans, passageOrder, PassageInOrder, NoWayExactly}
 use Rattle.octree.proofs.Accepted.{numbered, first-append, first-none, first-unlike, none-applies}
 use Rattle.amendments.proofs.Calls.{tables-pass, amended-pass}
 use Rattle.graph.proofs.Steps.{stepped, steps-exact}
@@ -53,7 +52,8 @@ not-listed (t ∷ ts) n b u (inr i) = not-listed ts n b (and→ (not (eqb (t .0)
 abbrev NoTwenty : List (ℕ × Bool) → Type 0
 NoTwenty ts = T (all (λ t. not (eqb (t .0) 20)) ts)
 
-module _ (graph : Graph) (both : BothWays graph) (before : List (ℕ × Bool)) (no-zero : T (numbered before)) (no-twenty : NoTwenty before) (voyage : Voyage) where
+module _ (graph : Graph) (both : BothWays graph) (before : List (ℕ × Bool)) (no-zero : T (numbered before)) (no-twenty : NoTwenty before)
+    (voyage : Voyage) where
   abbrev number : ℕ
   number = firstOf (before ++ later graph voyage)
 

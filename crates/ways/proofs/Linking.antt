@@ -1,8 +1,9 @@
--- How the table of links is filled: for each axis n and corner k in turn, k and the upper end of its edge are linked both ways. P n k m: on axis n the corners k
--- and m are to be linked, k the lower.
+-- How the table of links is filled: for each axis n and corner k in turn, k and the upper end of its edge are linked both ways. P n k m: on
+-- axis n the corners k and m are to be linked, k the lower.
 use Prim.Native.Nat.{ℕ, zero, suc, _+_, _*_, _≤_, _<_}
 use mathlib.Core.Path.{_≡_, sym, _∙_, subst}
 use mathlib.Core.Logic.{_⊎_, inl, inr}
+use mathlib.Core.Bool.{false}
 use mathlib.Core.List.{List, [], _∷_}
 use native.Mathlib.Omega.{arith}
 use lib.Dec.{T, eqb, eqb→eq}
@@ -50,19 +51,20 @@ module _ (size : ℕ) (P : ℕ → ℕ → ℕ → Type 0) where
     link-none t n k x h e none known = record {
       room = known .room;
       within = known .within;
-      up = λ n' k' m a b p. go n' k' m a b p (λ u. known .up n' k' m a u p) (below (3 * k' + n') x);
-      down = λ n' k' m a b p. go n' k' m a b p (λ u. known .down n' k' m a u p) (below (3 * k' + n') x);
+      up = λ axis low m a b p. go axis low m a b p (λ u. known .up axis low m a u p) (below (3 * low + axis) x);
+      down = λ axis low m a b p. go axis low m a b p (λ u. known .down axis low m a u p) (below (3 * low + axis) x);
       sound = known .sound;
     }
       where
-        go : {A : Type 0} (n' k' m : ℕ) → n' < 3 → 3 * k' + n' < x + 1 → P n' k' m → (3 * k' + n' < x → A) → (3 * k' + n' < x) ⊎ (x ≤ 3 * k' + n') → A
-        go n' k' m a b p f (inl c) = f c
-        go n' k' m a b p f (inr c) =
-            let u : k' ≡ k = omega arith in
-            let v : n' ≡ n = omega arith in
-            absurd (none m (subst (λ (z : ℕ). P z k m) v (subst (λ (z : ℕ). P n' z m) u p)))
+        go : {A : Type 0} (axis low m : ℕ) → axis < 3 → 3 * low + axis < x + 1 → P axis low m → (3 * low + axis < x → A) →
+            (3 * low + axis < x) ⊎ (x ≤ 3 * low + axis) → A
+        go axis low m a b p f (inl c) = f c
+        go axis low m a b p f (inr c) =
+            let u : low ≡ k = omega arith in
+            let v : axis ≡ n = omega arith in
+            absurd (none m (subst (λ (z : ℕ). P z k m) v (subst (λ (z : ℕ). P axis z m) u p)))
 
-    module _ (functional : (n k m m' : ℕ) → P n k m → P n k m' → m ≡ m') (injective : (n k k' m : ℕ) → P n k m → P n k' m → k ≡ k')
+    module _ (functional : (n k l m : ℕ) → P n k l → P n k m → l ≡ m) (injective : (n j k m : ℕ) → P n j m → P n k m → j ≡ k)
         (t : List ℕ) (n k m x : ℕ) (h : n < 3) (e : x ≡ 3 * k + n) (lower : k < size) (upper : m < size) (p : P n k m) (known : LinkedTo t x) where
       abbrev first : List ℕ
       first = set t (6 * k + (3 + n)) m
@@ -87,39 +89,41 @@ module _ (size : ℕ) (P : ℕ → ℕ → ℕ → Type 0) where
       link-next = record {
         room = length-set first (6 * m + n) k ∙ length-set t (6 * k + (3 + n)) m ∙ known .room;
         within = set-within first (6 * m + n) k (set-within t (6 * k + (3 + n)) m (known .within) (omega arith)) (omega arith);
-        up = λ n' k' m' a b q. ups n' k' m' a b q (below (3 * k' + n') x);
-        down = λ n' k' m' a b q. downs n' k' m' a b q (below (3 * k' + n') x);
+        up = λ axis low high a b q. ups axis low high a b q (below (3 * low + axis) x);
+        down = λ axis low high a b q. downs axis low high a b q (below (3 * low + axis) x);
         sound = λ j i a b. sounds j i a b (either (eqb (6 * j + i) (6 * k + (3 + n)))) (either (eqb (6 * j + i) (6 * m + n)));
       }
         where
-          here : (n' k' : ℕ) → n' < 3 → 3 * k' + n' < x + 1 → x ≤ 3 * k' + n' → (n' ≡ n) × (k' ≡ k)
-          here n' k' a b c = (omega arith, omega arith)
+          here : (axis low : ℕ) → axis < 3 → 3 * low + axis < x + 1 → x ≤ 3 * low + axis → (axis ≡ n) × (low ≡ k)
+          here axis low a b c = (omega arith, omega arith)
 
-          ups : (n' k' m' : ℕ) → n' < 3 → 3 * k' + n' < x + 1 → P n' k' m' → (3 * k' + n' < x) ⊎ (x ≤ 3 * k' + n') → linkAt new k' (3 + n') ≡ m'
-          ups n' k' m' a b q (inl c) = other k' (3 + n') (omega arith) (λ z. omega arith) (λ z. omega arith) ∙ known .up n' k' m' a c q
-          ups n' k' m' a b q (inr c) =
-              let (u, v) = here n' k' a b c in
-              let q' : P n k m' = subst (λ (z : ℕ). P z k m') u (subst (λ (z : ℕ). P n' z m') v q) in
-              (λ d. linkAt new (v d) (3 + u d)) ∙ up-new ∙ functional n k m m' p q'
+          ups : (axis low high : ℕ) → axis < 3 → 3 * low + axis < x + 1 → P axis low high → (3 * low + axis < x) ⊎ (x ≤ 3 * low + axis) →
+              linkAt new low (3 + axis) ≡ high
+          ups axis low high a b q (inl c) = other low (3 + axis) (omega arith) (λ z. omega arith) (λ z. omega arith) ∙ known .up axis low high a c q
+          ups axis low high a b q (inr c) =
+              let (u, v) = here axis low a b c in
+              let moved : P n k high = subst (λ (z : ℕ). P z k high) u (subst (λ (z : ℕ). P axis z high) v q) in
+              (λ d. linkAt new (v d) (3 + u d)) ∙ up-new ∙ functional n k m high p moved
 
-          downs : (n' k' m' : ℕ) → n' < 3 → 3 * k' + n' < x + 1 → P n' k' m' → (3 * k' + n' < x) ⊎ (x ≤ 3 * k' + n') → linkAt new m' n' ≡ k'
-          downs n' k' m' a b q (inr c) =
-              let (u, v) = here n' k' a b c in
-              let q' : P n k m' = subst (λ (z : ℕ). P z k m') u (subst (λ (z : ℕ). P n' z m') v q) in
-              let w = functional n k m' m q' p in
+          downs : (axis low high : ℕ) → axis < 3 → 3 * low + axis < x + 1 → P axis low high → (3 * low + axis < x) ⊎ (x ≤ 3 * low + axis) →
+              linkAt new high axis ≡ low
+          downs axis low high a b q (inr c) =
+              let (u, v) = here axis low a b c in
+              let moved : P n k high = subst (λ (z : ℕ). P z k high) u (subst (λ (z : ℕ). P axis z high) v q) in
+              let w = functional n k high m moved p in
               (λ d. linkAt new (w d) (u d)) ∙ down-new ∙ sym v
-          downs n' k' m' a b q (inl c) = other m' n' (omega arith) (λ z. omega arith) apart ∙ known .down n' k' m' a c q
+          downs axis low high a b q (inl c) = other high axis (omega arith) (λ z. omega arith) apart ∙ known .down axis low high a c q
             where
-              apart : 6 * m' + n' ≡ 6 * m + n → ⊥
+              apart : 6 * high + axis ≡ 6 * m + n → ⊥
               apart z =
-                  let u : m' ≡ m = omega arith in
-                  let v : n' ≡ n = omega arith in
-                  let q' : P n k' m = subst (λ (y : ℕ). P y k' m) v (subst (λ (y : ℕ). P n' k' y) u q) in
-                  let w = injective n k' k m q' p in
+                  let u : high ≡ m = omega arith in
+                  let v : axis ≡ n = omega arith in
+                  let moved : P n low m = subst (λ (y : ℕ). P y low m) v (subst (λ (y : ℕ). P axis low y) u q) in
+                  let w = injective n low k m moved p in
                   omega arith
 
-          sounds : (j i : ℕ) → j < size → i < 6 → T (eqb (6 * j + i) (6 * k + (3 + n))) ⊎ (eqb (6 * j + i) (6 * k + (3 + n)) ≡ mathlib.Core.Bool.false) →
-              T (eqb (6 * j + i) (6 * m + n)) ⊎ (eqb (6 * j + i) (6 * m + n) ≡ mathlib.Core.Bool.false) →
+          sounds : (j i : ℕ) → j < size → i < 6 → T (eqb (6 * j + i) (6 * k + (3 + n))) ⊎ (eqb (6 * j + i) (6 * k + (3 + n)) ≡ false) →
+              T (eqb (6 * j + i) (6 * m + n)) ⊎ (eqb (6 * j + i) (6 * m + n) ≡ false) →
               linkAt new j i < size → (r : ℕ) × (P r j (linkAt new j i) ⊎ P r (linkAt new j i) j)
           sounds j i a b (inl c) d l =
               let z = eqb→eq (6 * j + i) (6 * k + (3 + n)) c in

@@ -30,7 +30,8 @@ slice-aggregate-fill-wets c = search needs
 fill-wets-requires : tie.Need-fill-wets-requires
 fill-wets-requires c κs =
     let b = begin c in
-    (rises-true (b .args .cells .now) (b .args .corners .now) (refused-not b), (refl, corners-few (b .args .cells .now) (b .args .corners .now) (refused-not b)))
+    let a = b .args in
+    (rises-true (a .cells .now) (a .corners .now) (refused-not b), (refl, corners-few (a .cells .now) (a .corners .now) (refused-not b)))
 
 slice-aggregate-fill-levels : tie.Need-slice-aggregate-fill-levels
 slice-aggregate-fill-levels c = search needs

@@ -4,19 +4,14 @@ use lib.ListN.{length, take}
 use Rattle.rules.specs.Resounding.{amended}
 use Rattle.amendments.proofs.Calls.{amended-fits}
 use Rattle.checks.proofs.Amended.{tables-kept}
-use Rattle.ways.proofs.Call.{Call}
+use Rattle.ways.proofs.Call.{Call, callOf}
 use Rattle.ways.proofs.Amended.{by-amendments, in-force}
 use borrow.Author.Needs.{needs}
 use Rattle.ways.proofs.find_amended.Statement.{statement}
 use Rattle.ways.proofs.find_amended.Tie as tie
 
 abbrev call : tie.Start → Call
-call s = record {
-  cells = s .args .cells .now;
-  corners = s .args .corners .now;
-  clearance = s .args .asked .clearance;
-  voyage = record { start = s .args .asked .start; end = s .args .asked .end; way = s .args .way .now; work = s .args .work .now };
-}
+call s = callOf (s .args .cells .now) (s .args .corners .now) (s .args .asked) (s .args .way .now) (s .args .work .now)
 
 -- from the checks of the amendments to the start
 abbrev begin : tie.After-refusal → tie.Start

@@ -1,7 +1,7 @@
 -- `ways::find_in_force` meets its contract: refused by 7 or 8, by 18 or 19, or what is shown in an accepted survey.
 use mathlib.Core.Path.{sym, _∙_}
 use lib.ListN.{length}
-use Rattle.ways.proofs.Call.{Call, count}
+use Rattle.ways.proofs.Call.{Call, callOf, count}
 use Rattle.ways.proofs.Checks.{neither}
 use Rattle.ways.proofs.Amended.{refused-first, accepted-is, refused-slices, way-found}
 use borrow.Author.Needs.{needs}
@@ -9,12 +9,7 @@ use Rattle.ways.proofs.find_in_force.Statement.{statement}
 use Rattle.ways.proofs.find_in_force.Tie as tie
 
 abbrev call : tie.Start → Call
-call s = record {
-  cells = s .args .cells .now;
-  corners = s .args .corners .now;
-  clearance = s .args .asked .clearance;
-  voyage = record { start = s .args .asked .start; end = s .args .asked .end; way = s .args .way .now; work = s .args .work .now };
-}
+call s = callOf (s .args .cells .now) (s .args .corners .now) (s .args .asked) (s .args .way .now) (s .args .work .now)
 
 -- from the first refusal to the start, and from the test of the second to the first
 abbrev begin : tie.After-refusal → tie.Start

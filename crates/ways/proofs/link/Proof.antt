@@ -87,7 +87,8 @@ slice-write-links-2 c =
     let s = l .before .before .before .before .before in
     let a = s .args in
     let h = s .pre .1 (omega (arith, l .before .lowest .ensures, l .if1 .left)) in
-    omega (arith, w .wide .ensures, w .before .far .ensures, s .pre .0 .4, s .pre .0 .1, length-set (a .links .now) (6 * a .k + (3 + a .axis)) (w .before .far .result))
+    let size = length-set (a .links .now) (6 * a .k + (3 + a .axis)) (w .before .far .result) in
+    omega (arith, w .wide .ensures, w .before .far .ensures, s .pre .0 .4, s .pre .0 .1, size)
 
 same-length : tie.Need-same-length
 same-length c = search needs

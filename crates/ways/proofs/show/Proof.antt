@@ -8,7 +8,7 @@ use Rattle.rules.specs.Ways.{fewestSteps}
 use Rattle.edges.proofs.Readings.{no-refusal}
 use Rattle.edges.proofs.Surveyed.{corners-few}
 use Rattle.graph.specs.Table.{graphIn, followed}
-use Rattle.ways.proofs.Call.{Call, count}
+use Rattle.ways.proofs.Call.{Call, callOf, count}
 use Rattle.ways.proofs.Found.{Charted, Numbered, found-dry, found-none, found-few, found-some}
 use borrow.Author.Needs.{needs}
 use Rattle.ways.proofs.show.Statement.{statement}
@@ -16,12 +16,7 @@ use Rattle.ways.proofs.show.Tie as tie
 
 -- the call, its tables, and why they are right
 abbrev call : tie.Start → Call
-call s = record {
-  cells = s .args .cells .now;
-  corners = s .args .corners .now;
-  clearance = s .args .asked .clearance;
-  voyage = record { start = s .args .asked .start; end = s .args .asked .end; way = s .args .way .now; work = s .args .work .now };
-}
+call s = callOf (s .args .cells .now) (s .args .corners .now) (s .args .asked) (s .args .way .now) (s .args .work .now)
 
 charted : (s : tie.Start) → Charted (call s) (s .args .wets .now) (s .args .links .now)
 charted s =
