@@ -30,7 +30,7 @@ set-same (x ∷ l) (suc j) h = ap (λ (r : List ℕ). x ∷ r) (set-same l j (om
 pub record Exploring (t : List ℕ) (n start : ℕ) (past : List ℕ) (s : Frontier) (head i : ℕ) : Type 0 where
   pub known : Searching t n start (at (s .found)) (at (s .queue)) head i (s .tail)
   pub queue-size : length (s .queue) ≡ 4878
-  pub size : length (s .found) ≡ 4873
+  pub size : length (s .found) ≡ 4884
   pub kept : drop n (s .found) ≡ past
 
 -- all links of a corner, one after the other
@@ -44,7 +44,7 @@ record Visited (t : List ℕ) (n start : ℕ) (past : List ℕ) (s : Frontier) (
 pub record Grounded (t : List ℕ) (n : ℕ) (past : List ℕ) : Type 0 where
   pub few : n ≤ 4872
   pub within : Within t
-  pub some : (k : ℕ) → n + k < 4873 → 1 ≤ at past k
+  pub some : (k : ℕ) → n + k < 4884 → 1 ≤ at past k
 
 module _ {t : List ℕ} {n start : ℕ} {past : List ℕ} (ground : Grounded t n past) where
   module _ {s : Frontier} {head i : ℕ} (e : Exploring t n start past s head i) where
@@ -58,7 +58,7 @@ module _ {t : List ℕ} {n start : ℕ} {past : List ℕ} (ground : Grounded t n
     head-inside h = e .known .corner head h
 
     -- only a corner can be new
-    new-inside : (j : ℕ) → j ≤ 4872 → at (s .found) j ≡ 0 → j < n
+    new-inside : (j : ℕ) → j ≤ 4883 → at (s .found) j ≡ 0 → j < n
     new-inside j h z = go (below j n)
       where
         go : (j < n) ⊎ (n ≤ j) → j < n
@@ -196,7 +196,8 @@ module _ {t : List ℕ} {n start : ℕ} {past : List ℕ} (ground : Grounded t n
           kept = v .exploring .kept;
         }
 
-  pub all-done : {s : Frontier} {head i : ℕ} → Exploring t n start past s head i → start < n → s .tail ≤ head → s .found ≡ fewestSteps (graphIn t n) start ++ past
+  pub all-done : {s : Frontier} {head i : ℕ} → Exploring t n start past s head i → start < n → s .tail ≤ head →
+      s .found ≡ fewestSteps (graphIn t n) start ++ past
   all-done {s} {head} {i} e a h =
       let z = e .size in
       let few = ground .few in
@@ -212,24 +213,24 @@ module _ {t : List ℕ} {n start : ℕ} {past : List ℕ} (ground : Grounded t n
 pub record Cleared (n start : ℕ) (lent cleared : List ℕ) : Type 0 where
   pub few : n ≤ 4872
   pub is-start : start < n
-  pub ones : lent ≡ replicate 4873 1
+  pub ones : lent ≡ replicate 4884 257
   pub clear : cleared ≡ replicate n 0 ++ drop n lent
 
 module _ {n start : ℕ} {lent cleared : List ℕ} (made : Cleared n start lent cleared) where
-  lent-size : length lent ≡ 4873
-  lent-size = ap length (made .ones) ∙ length-replicate {A = ℕ} 4873 1
+  lent-size : length lent ≡ 4884
+  lent-size = ap length (made .ones) ∙ length-replicate {A = ℕ} 4884 257
 
-  pub cleared-size : length cleared ≡ 4873
+  pub cleared-size : length cleared ≡ 4884
   cleared-size = filled-length n 0 lent cleared (let z = lent-size in let few = made .few in omega arith) (made .clear) ∙ lent-size
 
   pub rest-kept : drop n (set cleared start 1) ≡ drop n lent
   rest-kept = drop-set-lt n cleared start 1 (made .is-start) ∙ ap (drop n) (made .clear) ∙ drop-at (replicate n 0) (drop n lent) n (length-replicate n 0)
 
-  pub past-ones : (k : ℕ) → n + k < 4873 → 1 ≤ at (drop n (set cleared start 1)) k
+  pub past-ones : (k : ℕ) → n + k < 4884 → 1 ≤ at (drop n (set cleared start 1)) k
   past-ones k h =
       let a = getD-drop n lent k 0 in
       let b = ap (λ (l : List ℕ). at l (n + k)) (made .ones) in
-      let c = getD-replicate {A = ℕ} 4873 (n + k) 1 0 h in
+      let c = getD-replicate {A = ℕ} 4884 (n + k) 257 0 h in
       let d = ap (λ (l : List ℕ). at l k) rest-kept in
       omega arith
 

@@ -110,7 +110,8 @@ as-many graph both start end = let a = le start end in let b = le end start in o
     le : (x y : ℕ) → getD (fewestSteps graph y) x 0 ≤ getD (fewestSteps graph x) y 0
     le x y = go (getD (fewestSteps graph x) y 0) refl (getD (fewestSteps graph y) x 0) refl
       where
-        go : (a : ℕ) → getD (fewestSteps graph x) y 0 ≡ a → (b : ℕ) → getD (fewestSteps graph y) x 0 ≡ b → getD (fewestSteps graph y) x 0 ≤ getD (fewestSteps graph x) y 0
+        go : (a : ℕ) → getD (fewestSteps graph x) y 0 ≡ a → (b : ℕ) → getD (fewestSteps graph y) x 0 ≡ b →
+            getD (fewestSteps graph y) x 0 ≤ getD (fewestSteps graph x) y 0
         go (suc a) e b f = let c = stepped graph y .least x a (turned graph both a x y (stepped graph x .there y a e)) .1 in omega arith
         go zero e zero f = omega arith
         go zero e (suc b) f = let c = stepped graph x .least y b (turned graph both b y x (stepped graph y .there x b f)) .0 in absurd (omega arith)

@@ -152,7 +152,8 @@ best-shown graph both start end v y =
 pub way-length : (graph : Graph) → BothWays graph → (start end n : ℕ) → getD (fewestSteps graph end) start 0 ≡ suc n → length (wayOf graph start end) ≡ suc n
 unfolding wayOf
 way-length graph both start end n e =
-    ap (λ (m : ℕ). length (wayFrom graph (fewestSteps graph end) (pred m) start)) e ∙ way-from-length graph both end (fewestSteps graph end) (stepped graph end) n start
+    ap (λ (m : ℕ). length (wayFrom graph (fewestSteps graph end) (pred m) start)) e
+    ∙ way-from-length graph both end (fewestSteps graph end) (stepped graph end) n start
 
 -- ---- no other way is the best too
 

@@ -4,7 +4,7 @@
 --     links:   [ x y z X Y Z ]    [ x y z X Y Z ]    [ x y z X Y Z ]  ..
 --
 -- For each corner six places: the corners at the other ends of its undivided edges, down and up the axes, if both ends are wet. A place without such an edge
--- has 4,872, which is no corner. A corner's rank is its fewest steps plus one, from where a search begins.
+-- has 4,883, which is no corner. A corner's rank is its fewest steps plus one, from where a search begins.
 use Prim.Native.Nat.{ℕ, zero, suc, _+_, _*_, _<_, _≤_}
 use mathlib.Core.Path.{_≡_}
 use mathlib.Core.Bool.{true, _&&_, cond}
@@ -18,9 +18,9 @@ use Rattle.rules.specs.Ways.{Graph, passable}
 abbrev pub linkAt : List ℕ → ℕ → ℕ → ℕ
 linkAt t k i = getD t (6 * k + i) 0
 
--- no place has a number above 4,872
+-- no place has a number above 4,883
 abbrev pub Within : List ℕ → Type 0
-Within t = (x : ℕ) → getD t x 0 ≤ 4872
+Within t = (x : ℕ) → getD t x 0 ≤ 4883
 
 -- The table has just the steps between wet corners.
 pub record Links (graph : Graph) (t : List ℕ) : Type 0 where

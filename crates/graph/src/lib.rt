@@ -10,14 +10,18 @@ ghost use Rattle.base.specs.Lists.{bit};
 ghost use Rattle.rules.specs.Ways.{fewestSteps};
 ghost use Rattle.graph.specs.Table.{Within, graphIn, reached, visited, lowestLink, followed};
 
-// No corner: what stands in the place of a link that is not there. It is above every record number.
-pub const NONE: u16 = 4872;
+// No corner: what stands in the place of a link that is not there. It is above every record number, and has two equal bytes, so that a table of it is filled by
+// the C library's memset.
+pub const NONE: u16 = 0x1313;
 
 // How many places the table of links has: six for each of as many corners as there can be.
 pub const LINKS: usize = 29232;
 
-// How many ranks a search keeps: one for each corner, and one at NONE, so that a link that is not there can be looked up as any other.
-const RANKS: usize = 4873;
+// How many ranks a search keeps: for each corner, and up to NONE, so that a link that is not there can be looked up as any other.
+const RANKS: usize = 4884;
+
+// The rank of what is past the corners: any but 0, so that it is never new, and of two equal bytes likewise.
+const PAST: u16 = 0x0101;
 
 // How many places the queue has: one for each corner, and six more, which `visit` asks for before it knows whether any link leads to a new corner.
 const QUEUE: usize = 4878;
@@ -96,7 +100,7 @@ fn visit(
     tail: usize,
 ) -> usize
     requires { ⌜ (length (now links) ≡ 29232) × Within (now links) × (k < 4872) ⌝ }
-    requires { ⌜ (length (now found) ≡ 4873) × (tail + 6 ≤ length (now queue)) ⌝ }
+    requires { ⌜ (length (now found) ≡ 4884) × (tail + 6 ≤ length (now queue)) ⌝ }
     ensures { λ r. ⌜ record { tail = r; found = now (found .exit); queue = now (queue .exit) }
         ≡ visited (now (links .entry)) rank k 6 (record { tail = tail; found = now (found .entry); queue = now (queue .entry) }) ⌝ }
 {
@@ -109,11 +113,11 @@ fn visit(
     end
 }
 
-// The fewest steps from a corner to each that can be reached from it, plus one, and 0 for the others: breadth first. All ranks are 1 before, so that what is
-// past the corners is never new.
+// The fewest steps from a corner to each that can be reached from it, plus one, and 0 for the others: breadth first. All ranks are PAST before, so that what
+// is past the corners is never new.
 fn explore(links: &[u16], count: usize, start: usize, found: &mut [u16], queue: &mut [u16])
     requires { ⌜ (length (now links) ≡ 29232) × Within (now links) × (count ≤ 4872) × (start < count) ⌝ }
-    requires { ⌜ (now found ≡ replicate 4873 1) × (length (now queue) ≡ 4878) ⌝ }
+    requires { ⌜ (now found ≡ replicate 4884 257) × (length (now queue) ≡ 4878) ⌝ }
     ensures { λ _. ⌜ now (found .exit) ≡ fewestSteps (graphIn (now (links .entry)) count) start ++ drop count (now (found .entry)) ⌝ }
 {
     clear(found, count);
@@ -182,7 +186,7 @@ pub fn rank_corners(links: &[u16], count: usize, start: usize, ranks: &mut [u16]
     ensures { λ _. ⌜ now (ranks .exit) ≡ fewestSteps (graphIn (now (links .entry)) count) start ++ drop count (now (ranks .entry)) ⌝ }
 {
     let mut queue = [0u16; QUEUE];
-    let mut found = [1u16; RANKS];
+    let mut found = [PAST; RANKS];
     explore(links, count, start, &mut found, &mut queue);
     copy(&found, count, ranks);
 }
@@ -196,7 +200,7 @@ pub fn write_way(links: &[u16], count: usize, start: usize, end: usize, n: usize
         ≡ followed (now (links .entry)) (fewestSteps (graphIn (now (links .entry)) count) end) count n start ++ drop n (now (way .entry)) ⌝ }
 {
     let mut queue = [0u16; QUEUE];
-    let mut back = [1u16; RANKS];
+    let mut back = [PAST; RANKS];
     explore(links, count, end, &mut back, &mut queue);
     follow(links, &back, count, start, n, way);
 }

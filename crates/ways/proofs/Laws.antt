@@ -183,7 +183,8 @@ passage-means tc tk ta clearance start end way work = go (eqb (firstOf (amendmen
     go : (b : Bool) → eqb (firstOf (amendmentChecks tc tk ta)) 0 ≡ b → Means (cornerGraph tc (amended tk ta) clearance) start end way work
         (cond b (passage tc (amended tk ta) clearance start end way work) (notShown (firstOf (amendmentChecks tc tk ta)) way work))
     go true e =
-        means (cornerGraph tc (amended tk ta) clearance) (joined-both-ways tc (amended tk ta) clearance) (checks tc (amended tk ta) clearance) (listed .0) (listed .1)
+        means (cornerGraph tc (amended tk ta) clearance) (joined-both-ways tc (amended tk ta) clearance) (checks tc (amended tk ta) clearance)
+        (listed .0) (listed .1)
         (record { start = start; end = end; way = way; work = work })
     go false e =
         nothing-means (cornerGraph tc (amended tk ta) clearance) start end way work (firstOf (amendmentChecks tc tk ta))

@@ -13,8 +13,8 @@ use borrow.Author.Tests.{eqb-false}
 use Rattle.base.proofs.Tests.{below, either}
 use Rattle.graph.specs.Table.{linkAt, Within}
 
--- a number of at most 4,872 may stand at any place
-set-within : (t : List ℕ) (a v : ℕ) → Within t → v ≤ 4872 → Within (set t a v)
+-- a number of at most 4,883 may stand at any place
+set-within : (t : List ℕ) (a v : ℕ) → Within t → v ≤ 4883 → Within (set t a v)
 set-within [] a v w h x = w x
 set-within (y ∷ t) zero v w h zero = h
 set-within (y ∷ t) zero v w h (suc x) = w (suc x)
@@ -31,20 +31,20 @@ module _ (size : ℕ) (P : ℕ → ℕ → ℕ → Type 0) where
     pub sound : (j i : ℕ) → j < size → i < 6 → linkAt t j i < size → (n : ℕ) × (P n j (linkAt t j i) ⊎ P n (linkAt t j i) j)
 
   module _ (few : size ≤ 4872) where
-    pub link-start : (w : ℕ) → w ≡ 29232 → LinkedTo (replicate w 4872) 0
+    pub link-start : (w : ℕ) → w ≡ 29232 → LinkedTo (replicate w 4883) 0
     link-start w e = record {
-      room = length-replicate w 4872 ∙ e;
+      room = length-replicate w 4883 ∙ e;
       within = λ x. filled x (below x w);
       up = λ n k m a b. absurd (omega arith);
       down = λ n k m a b. absurd (omega arith);
-      sound = λ j i a b c. let u = getD-replicate {A = ℕ} w (6 * j + i) 4872 0 (omega arith) in absurd (omega arith);
+      sound = λ j i a b c. let u = getD-replicate {A = ℕ} w (6 * j + i) 4883 0 (omega arith) in absurd (omega arith);
     }
       where
-        filled : (x : ℕ) → (x < w) ⊎ (w ≤ x) → getD (replicate w 4872) x 0 ≤ 4872
-        filled x (inl a) = let u = getD-replicate {A = ℕ} w x 4872 0 a in omega arith
+        filled : (x : ℕ) → (x < w) ⊎ (w ≤ x) → getD (replicate w 4883) x 0 ≤ 4883
+        filled x (inl a) = let u = getD-replicate {A = ℕ} w x 4883 0 a in omega arith
         filled x (inr a) =
-            let l = length-replicate {A = ℕ} w 4872 in
-            let u = List·getD-eq-default {A = ℕ} (replicate w 4872) 0 {n = x} (omega arith) in
+            let l = length-replicate {A = ℕ} w 4883 in
+            let u = List·getD-eq-default {A = ℕ} (replicate w 4883) 0 {n = x} (omega arith) in
             omega arith
 
     pub link-none : (t : List ℕ) (n k x : ℕ) → n < 3 → x ≡ 3 * k + n → ((m : ℕ) → P n k m → ⊥) → LinkedTo t x → LinkedTo t (x + 1)

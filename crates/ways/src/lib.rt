@@ -60,7 +60,7 @@ fn fill_links(
     requires { ⌜ accepted (now cells) (now corners) clearance ≡ true ⌝ }
     requires { ⌜ Wets (now corners) clearance (now wets) ⌝ }
     requires { ⌜ Levelled (now cells) (now corners) (now slots) ⌝ }
-    requires { ⌜ now links ≡ replicate 29232 4872 ⌝ }
+    requires { ⌜ now links ≡ replicate 29232 4883 ⌝ }
     ensures { λ _. ⌜ Links (cornerGraph (now (cells .entry)) (now (corners .entry)) clearance) (now (links .exit)) ⌝ }
 {
     let count = corners.len() / records::SIZE;

@@ -58,7 +58,7 @@ clear-requires : tie.Need-clear-requires Inv-loop μ-loop
 clear-requires c κs =
     let b = c .before .before .before .before in
     let e = ap length (b .pre .1 .0) in
-    let f = length-replicate {A = ℕ} 4873 1 in
+    let f = length-replicate {A = ℕ} 4884 257 in
     omega (arith, e, f, b .pre .0 .2)
 
 mul-found : tie.Need-mul-found Inv-loop μ-loop
@@ -137,7 +137,7 @@ loop-again c =
 same-length : tie.Need-same-length Inv-loop μ-loop
 same-length c =
     let b = begin (c .before) in
-    c .before .loop .inv .size ∙ sym (ap length (b .pre .1 .0) ∙ length-replicate {A = ℕ} 4873 1)
+    c .before .loop .inv .size ∙ sym (ap length (b .pre .1 .0) ∙ length-replicate {A = ℕ} 4884 257)
 
 same-length-2 : tie.Need-same-length-2 Inv-loop μ-loop
 same-length-2 c = c .before .loop .inv .queue-size ∙ sym (begin (c .before) .pre .1 .1)

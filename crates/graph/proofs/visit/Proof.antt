@@ -13,7 +13,7 @@ use Rattle.graph.proofs.visit.Tie as tie
 
 abbrev Inv-loop : tie.InvT-loop
 Inv-loop links k rank found₀ queue₀ tail end₀ i₀ found queue end i =
-    (i ≤ 6) × (end ≤ tail + i) × (length found ≡ 4873) × (length queue ≡ length queue₀)
+    (i ≤ 6) × (end ≤ tail + i) × (length found ≡ 4884) × (length queue ≡ length queue₀)
     × (frontier end found queue ≡ visited links rank k i (frontier tail found₀ queue₀))
 
 abbrev μ-loop : tie.MeasureT-loop

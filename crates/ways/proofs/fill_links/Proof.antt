@@ -119,7 +119,7 @@ loop-again c =
 same-length : tie.Need-same-length Inv-loop μ-loop
 same-length c =
     let l = c .before in
-    l .loop .inv .0 .room ∙ sym (ap length (begin l .pre .1 .1 .1) ∙ length-replicate {A = ℕ} 29232 4872)
+    l .loop .inv .0 .room ∙ sym (ap length (begin l .pre .1 .1 .1) ∙ length-replicate {A = ℕ} 29232 4883)
 
 returns : tie.Need-returns Inv-loop μ-loop
 returns c =

@@ -53,7 +53,8 @@ find-accepted-requires c κs =
     let s = begin r in
     let a = s .args in
     let (is-start, is-end, way-fits, work-fits) =
-    neither (count (call s)) (a .asked .start) (a .asked .end) (length (a .way .now)) (length (a .work .now)) (sym (h .question-refusal .ensures) ∙ o .if2 .left) in
+    neither (count (call s)) (a .asked .start) (a .asked .end) (length (a .way .now)) (length (a .work .now))
+    (sym (h .question-refusal .ensures) ∙ o .if2 .left) in
     (s .pre, (accepted-is (call s) (sym (r .refusal .ensures) ∙ e .if1 .left), ((is-start, is-end), (way-fits, work-fits))))
 
 same-length : tie.Need-same-length

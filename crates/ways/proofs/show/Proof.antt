@@ -41,7 +41,8 @@ asked x = begin (marked x .before)
 -- the way slice with a way of n corners
 abbrev onwards : tie.Start → ℕ → List ℕ
 onwards s n =
-    followed (s .args .links .now) (fewestSteps (graphIn (s .args .links .now) (count (call s))) (s .args .asked .end)) (count (call s)) n (s .args .asked .start)
+    followed (s .args .links .now) (fewestSteps (graphIn (s .args .links .now) (count (call s))) (s .args .asked .end)) (count (call s)) n
+    (s .args .asked .start)
     ++ drop n (s .args .way .now)
 
 numbered : (x : tie.After-rank-corners) →
