@@ -32,9 +32,9 @@ module _ (call : Call) where
 
   -- refused by one of checks 1 to 8
   pub refused-first : (n : ℕ) → n ≡ firstOf (earlier call) → (n ≡ 0 → ⊥) → (r : Passage) → r ≡ passage-of n 0 →
-      Shows (answer call) r (call .voyage .way) (call .voyage .work)
+      Shows (answer call) r (call .question .way) (call .question .work)
   unfolding passage
-  refused-first n e z = refused-before (graph-of call) (earlier call) no-zero (call .voyage) n e z (λ w. not-20 (sym e ∙ w))
+  refused-first n e z = refused-before (graph-of call) (earlier call) no-zero (call .question) n e z (λ w. not-20 (sym e ∙ w))
 
   module _ (pass : firstOf (earlier call) ≡ 0) where
     pub accepted-is : accepted (call .cells) (call .corners) (call .clearance) ≡ true
@@ -42,29 +42,29 @@ module _ (call : Call) where
     accepted-is = eq-eqb (firstOf (earlier call)) 0 pass
 
     -- by 18 or 19
-    pub refused-slices : (n : ℕ) → n ≡ firstOf (asked (count call) (call .voyage)) → (n ≡ 0 → ⊥) → (r : Passage) → r ≡ passage-of n 0 →
-        Shows (answer call) r (call .voyage .way) (call .voyage .work)
+    pub refused-slices : (n : ℕ) → n ≡ firstOf (asked (count call) (call .question)) → (n ≡ 0 → ⊥) → (r : Passage) → r ≡ passage-of n 0 →
+        Shows (answer call) r (call .question .way) (call .question .work)
     unfolding passage
     refused-slices n e z =
-        refused-after (graph-of call) (earlier call) no-zero (call .voyage) pass n
-        (subst (λ (s : ℕ). n ≡ firstOf (asked s (call .voyage))) (sym (size-is (call .cells) (call .corners) (call .clearance))) e) z
-        (λ w. not-twenty (count call) (call .voyage .start) (call .voyage .end) (length (call .voyage .way)) (length (call .voyage .work)) (sym e ∙ w))
+        refused-after (graph-of call) (earlier call) no-zero (call .question) pass n
+        (subst (λ (s : ℕ). n ≡ firstOf (asked s (call .question))) (sym (size-is (call .cells) (call .corners) (call .clearance))) e) z
+        (λ w. not-twenty (count call) (call .question .start) (call .question .end) (length (call .question .way)) (length (call .question .work)) (sym e ∙ w))
 
     -- or a way
-    pub way-found : {r : Passage} {way work : List ℕ} → Shows (shown (graph-of call) [] (call .voyage)) r way work → Shows (answer call) r way work
+    pub way-found : {r : Passage} {way work : List ℕ} → Shows (shown (graph-of call) [] (call .question)) r way work → Shows (answer call) r way work
     unfolding passage
     way-found {r} {way} {work} s =
-        subst (λ (d : Shown). Shows d r way work) (sym (passed-before (graph-of call) (earlier call) no-zero (call .voyage) pass)) s
+        subst (λ (d : Shown). Shows d r way work) (sym (passed-before (graph-of call) (earlier call) no-zero (call .question) pass)) s
 
 -- ---- as amended
 
 module _ (call : Call) (amendments : List ℕ) where
   abbrev refusal : ℕ → Shown
-  refusal n = notShown n (call .voyage .way) (call .voyage .work)
+  refusal n = notShown n (call .question .way) (call .question .work)
 
   -- a refusal shows nothing
   nothing : (n : ℕ) → answerAmended call amendments ≡ refusal n → (r : Passage) → r ≡ passage-of n 0 →
-      Shows (answerAmended call amendments) r (call .voyage .way) (call .voyage .work)
+      Shows (answerAmended call amendments) r (call .question .way) (call .question .work)
   nothing n e r is = record {
     result-is = is ∙ sym (ap (λ (d : Shown). d .result) e);
     way-is = sym (ap (λ (d : Shown). d .way) e);
@@ -72,12 +72,12 @@ module _ (call : Call) (amendments : List ℕ) where
   }
 
   pub by-tables : (n : ℕ) → n ≡ firstOf (tableChecks (call .cells) (call .corners)) → (n ≡ 0 → ⊥) → (r : Passage) → r ≡ passage-of n 0 →
-      Shows (answerAmended call amendments) r (call .voyage .way) (call .voyage .work)
+      Shows (answerAmended call amendments) r (call .question .way) (call .question .work)
   by-tables n is some =
       nothing n (unfold passageAmended in refused-by-tables (call .cells) (call .corners) amendments refusal (λ t. answer (within call t)) n is some)
 
   pub by-amendments : (n : ℕ) → n ≡ firstOf (amendmentChecks (call .cells) (call .corners) amendments) → (n ≡ 0 → ⊥) →
-      (r : Passage) → r ≡ passage-of n 0 → Shows (answerAmended call amendments) r (call .voyage .way) (call .voyage .work)
+      (r : Passage) → r ≡ passage-of n 0 → Shows (answerAmended call amendments) r (call .question .way) (call .question .work)
   by-amendments n is some =
       nothing n (unfold passageAmended in refused-by-amendments (call .cells) (call .corners) amendments refusal (λ t. answer (within call t)) n is some)
 

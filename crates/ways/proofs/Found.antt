@@ -16,63 +16,63 @@ use Rattle.ways.proofs.Marks.{size-is, mark-passes, no-mark-dry}
 use Rattle.ways.proofs.Outcome.{Ready, dry-shown, reached-none, few-corners-on-way, reached-some}
 
 -- the tables are filled: which corners are wet, and the links between them
-pub record Charted (call : Call) (wets links : List ℕ) : Type 0 where
+pub record Filled (call : Call) (wets links : List ℕ) : Type 0 where
   pub marks : Wets (call .corners) (call .clearance) wets
   pub linked : Links (graph-of call) links
-  pub fits : Fits (count call) (call .voyage)
+  pub fits : Fits (count call) (call .question)
 
 -- the start is wet, and the work slice has the corners numbered from it
 pub record Numbered (call : Call) (wets links work : List ℕ) : Type 0 where
-  pub charted : Charted call wets links
-  pub wet : getD wets (call .voyage .start) 0 ≡ 1
-  pub numbers : work ≡ fewestSteps (graphIn links (count call)) (call .voyage .start) ++ drop (count call) (call .voyage .work)
+  pub filled : Filled call wets links
+  pub wet : getD wets (call .question .start) 0 ≡ 1
+  pub numbers : work ≡ fewestSteps (graphIn links (count call)) (call .question .start) ++ drop (count call) (call .question .work)
 
-module _ {call : Call} {wets links : List ℕ} (charted : Charted call wets links) where
+module _ {call : Call} {wets links : List ℕ} (filled : Filled call wets links) where
   -- as many corners as records
   sized : graph-of call .size ≡ count call
   sized = size-is (call .cells) (call .corners) (call .clearance)
 
-  ready : Ready (graph-of call) (call .voyage) links
+  ready : Ready (graph-of call) (call .question) links
   unfolding JoinedBothWays
   ready = record {
-    fits = subst (λ (n : ℕ). Fits n (call .voyage)) (sym sized) (charted .fits);
-    linked = charted .linked;
+    fits = subst (λ (n : ℕ). Fits n (call .question)) (sym sized) (filled .fits);
+    linked = filled .linked;
     both = joined-both-ways (call .cells) (call .corners) (call .clearance);
   }
 
-  pub found-dry : (getD wets (call .voyage .start) 0 ≡ 1 → ⊥) → (r : Passage) → r ≡ passage-of 20 0 →
-      (work : List ℕ) → work ≡ replicate (count call) 0 ++ drop (count call) (call .voyage .work) →
-      Shows (shown (graph-of call) [] (call .voyage)) r (call .voyage .way) work
+  pub found-dry : (getD wets (call .question .start) 0 ≡ 1 → ⊥) → (r : Passage) → r ≡ passage-of 20 0 →
+      (work : List ℕ) → work ≡ replicate (count call) 0 ++ drop (count call) (call .question .work) →
+      Shows (shown (graph-of call) [] (call .question)) r (call .question .way) work
   found-dry d r is work e =
-      dry-shown ready (no-mark-dry (call .cells) (call .corners) (call .clearance) wets (charted .marks) (call .voyage .start) d) r is work
-      (subst (λ (n : ℕ). work ≡ replicate n 0 ++ drop n (call .voyage .work)) (sym sized) e)
+      dry-shown ready (no-mark-dry (call .cells) (call .corners) (call .clearance) wets (filled .marks) (call .question .start) d) r is work
+      (subst (λ (n : ℕ). work ≡ replicate n 0 ++ drop n (call .question .work)) (sym sized) e)
 
 module _ {call : Call} {wets links work : List ℕ} (numbered : Numbered call wets links work) where
-  ready-now : Ready (graph-of call) (call .voyage) links
-  ready-now = ready (numbered .charted)
+  ready-now : Ready (graph-of call) (call .question) links
+  ready-now = ready (numbered .filled)
 
-  passes : T (passable (graph-of call) (call .voyage .start))
+  passes : T (passable (graph-of call) (call .question .start))
   passes =
-      mark-passes (call .cells) (call .corners) (call .clearance) wets (numbered .charted .marks) (call .voyage .start) (numbered .charted .fits .is-start)
+      mark-passes (call .cells) (call .corners) (call .clearance) wets (numbered .filled .marks) (call .question .start) (numbered .filled .fits .is-start)
       (numbered .wet)
 
-  found : work ≡ fewestSteps (graphIn links (graph-of call .size)) (call .voyage .start) ++ drop (graph-of call .size) (call .voyage .work)
+  found : work ≡ fewestSteps (graphIn links (graph-of call .size)) (call .question .start) ++ drop (graph-of call .size) (call .question .work)
   found =
-      subst (λ (n : ℕ). work ≡ fewestSteps (graphIn links n) (call .voyage .start) ++ drop n (call .voyage .work)) (sym (sized (numbered .charted)))
+      subst (λ (n : ℕ). work ≡ fewestSteps (graphIn links n) (call .question .start) ++ drop n (call .question .work)) (sym (sized (numbered .filled)))
       (numbered .numbers)
 
-  pub found-none : getD work (call .voyage .end) 0 ≡ 0 → (r : Passage) → r ≡ passage-of 20 0 →
-      Shows (shown (graph-of call) [] (call .voyage)) r (call .voyage .way) work
+  pub found-none : getD work (call .question .end) 0 ≡ 0 → (r : Passage) → r ≡ passage-of 20 0 →
+      Shows (shown (graph-of call) [] (call .question)) r (call .question .way) work
   found-none = reached-none ready-now passes work found
 
-  pub found-few : getD work (call .voyage .end) 0 ≤ count call
-  found-few = let a = few-corners-on-way ready-now passes work found in let b = sized (numbered .charted) in omega arith
+  pub found-few : getD work (call .question .end) 0 ≤ count call
+  found-few = let a = few-corners-on-way ready-now passes work found in let b = sized (numbered .filled) in omega arith
 
-  pub found-some : (some : getD work (call .voyage .end) 0 ≡ 0 → ⊥) (way : List ℕ) →
-      way ≡ followed links (fewestSteps (graphIn links (count call)) (call .voyage .end)) (count call)
-      (getD work (call .voyage .end) 0) (call .voyage .start) ++ drop (getD work (call .voyage .end) 0) (call .voyage .way) →
-      Shows (shown (graph-of call) [] (call .voyage)) (passage-of 0 (getD work (call .voyage .end) 0)) way work
+  pub found-some : (some : getD work (call .question .end) 0 ≡ 0 → ⊥) (way : List ℕ) →
+      way ≡ followed links (fewestSteps (graphIn links (count call)) (call .question .end)) (count call)
+      (getD work (call .question .end) 0) (call .question .start) ++ drop (getD work (call .question .end) 0) (call .question .way) →
+      Shows (shown (graph-of call) [] (call .question)) (passage-of 0 (getD work (call .question .end) 0)) way work
   found-some some way d =
       reached-some ready-now passes work found some way
-      (subst (λ (n : ℕ). way ≡ followed links (fewestSteps (graphIn links n) (call .voyage .end)) n (getD work (call .voyage .end) 0) (call .voyage .start)
-      ++ drop (getD work (call .voyage .end) 0) (call .voyage .way)) (sym (sized (numbered .charted))) d)
+      (subst (λ (n : ℕ). way ≡ followed links (fewestSteps (graphIn links n) (call .question .end)) n (getD work (call .question .end) 0) (call .question .start)
+      ++ drop (getD work (call .question .end) 0) (call .question .way)) (sym (sized (numbered .filled))) d)

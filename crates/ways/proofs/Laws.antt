@@ -24,7 +24,7 @@ use Rattle.graph.proofs.Ways.{best-shown, way-length}
 use Rattle.graph.proofs.Transfer.{as-many, steps-dry}
 use Rattle.rules.specs.declared.Passage.{Passage}
 use Rattle.ways.specs.Shows.{Shows, shownBy}
-use Rattle.ways.proofs.Call.{Voyage, shown, Call, graph-of, within, answerAmended}
+use Rattle.ways.proofs.Call.{Question, shown, Call, graph-of, within, answerAmended}
 use Rattle.ways.proofs.Checks.{or-true}
 use Rattle.ways.proofs.Joined.{joined-both-ways}
 use Rattle.ways.proofs.Outcome.{numbers, corners, route, later}
@@ -53,101 +53,101 @@ abbrev NoTwenty : List (ℕ × Bool) → Type 0
 NoTwenty ts = T (all (λ t. not (eqb (t .0) 20)) ts)
 
 module _ (graph : Graph) (both : BothWays graph) (before : List (ℕ × Bool)) (no-zero : T (numbered before)) (no-twenty : NoTwenty before)
-    (voyage : Voyage) where
+    (question : Question) where
   abbrev number : ℕ
-  number = firstOf (before ++ later graph voyage)
+  number = firstOf (before ++ later graph question)
 
   -- what the slices hold then
   abbrev new-way : List ℕ
-  new-way = written (route graph voyage) (voyage .way)
+  new-way = written (route graph question) (question .way)
 
   abbrev new-work : List ℕ
-  new-work = written (numbers graph voyage) (voyage .work)
+  new-work = written (numbers graph question) (question .work)
 
-  numbers-size : length (numbers graph voyage) ≡ graph .size
-  numbers-size = stepped graph (voyage .start) .sized
+  numbers-size : length (numbers graph question) ≡ graph .size
+  numbers-size = stepped graph (question .start) .sized
 
-  front-work : take (graph .size) new-work ≡ numbers graph voyage
-  front-work = take-at (numbers graph voyage) (drop (length (numbers graph voyage)) (voyage .work)) (graph .size) numbers-size
+  front-work : take (graph .size) new-work ≡ numbers graph question
+  front-work = take-at (numbers graph question) (drop (length (numbers graph question)) (question .work)) (graph .size) numbers-size
 
-  rest-work : drop (graph .size) new-work ≡ drop (graph .size) (voyage .work)
+  rest-work : drop (graph .size) new-work ≡ drop (graph .size) (question .work)
   rest-work =
-      drop-at (numbers graph voyage) (drop (length (numbers graph voyage)) (voyage .work)) (graph .size) numbers-size
-      ∙ ap (λ (n : ℕ). drop n (voyage .work)) numbers-size
+      drop-at (numbers graph question) (drop (length (numbers graph question)) (question .work)) (graph .size) numbers-size
+      ∙ ap (λ (n : ℕ). drop n (question .work)) numbers-size
 
   -- where there is no refusal, the end is reached
-  reached : number ≡ 0 → eqb (corners graph voyage) 0 ≡ false
+  reached : number ≡ 0 → eqb (corners graph question) 0 ≡ false
   reached z =
-      none-applies (later graph voyage) tt (first-none before (later graph voyage) no-zero z .1) (20, eqb (corners graph voyage) 0) (inr (inr (inl refl)))
+      none-applies (later graph question) tt (first-none before (later graph question) no-zero z .1) (20, eqb (corners graph question) 0) (inr (inr (inl refl)))
 
-  way-size : (m : ℕ) → corners graph voyage ≡ m → eqb m 0 ≡ false → length (route graph voyage) ≡ m
+  way-size : (m : ℕ) → corners graph question ≡ m → eqb m 0 ≡ false → length (route graph question) ≡ m
   way-size zero e z = absurd (eqb-false 0 0 z refl)
-  way-size (suc m) e z = way-length graph both (voyage .start) (voyage .end) m (as-many graph both (voyage .start) (voyage .end) ∙ e)
+  way-size (suc m) e z = way-length graph both (question .start) (question .end) m (as-many graph both (question .start) (question .end) ∙ e)
 
-  is-best : (m : ℕ) → corners graph voyage ≡ m → eqb m 0 ≡ false → Best graph (voyage .start) (voyage .end) (route graph voyage)
+  is-best : (m : ℕ) → corners graph question ≡ m → eqb m 0 ≡ false → Best graph (question .start) (question .end) (route graph question)
   unfolding BestShown StepsExact
   is-best zero e z = absurd (eqb-false 0 0 z refl)
   is-best (suc m) e z =
-      let (w, y, l) = steps-exact graph (voyage .start) .there (voyage .end) m e in
-      best-shown graph both (voyage .start) (voyage .end) w y
+      let (w, y, l) = steps-exact graph (question .start) .there (question .end) m e in
+      best-shown graph both (question .start) (question .end) w y
 
   -- where 20 is given, it is not
-  unreached : number ≡ 20 → corners graph voyage ≡ 0
+  unreached : number ≡ 20 → corners graph question ≡ 0
   unreached e =
-      let (b, i, t) = applies (before ++ later graph voyage) 20 (λ z. omega arith) e in
-      go b t (in-append (20, b) before (later graph voyage) i)
+      let (b, i, t) = applies (before ++ later graph question) 20 (λ z. omega arith) e in
+      go b t (in-append (20, b) before (later graph question) i)
     where
-      go : (b : Bool) → T b → In (20, b) before ⊎ In (20, b) (later graph voyage) → corners graph voyage ≡ 0
+      go : (b : Bool) → T b → In (20, b) before ⊎ In (20, b) (later graph question) → corners graph question ≡ 0
       go b t (inl i) = absurd (not-listed before 20 b no-twenty i)
       go b t (inr (inl q)) = let z = ap (λ (x : ℕ × Bool). x .0) q in absurd (omega arith)
       go b t (inr (inr (inl q))) = let z = ap (λ (x : ℕ × Bool). x .0) q in absurd (omega arith)
-      go b t (inr (inr (inr (inl q)))) = eqb→eq (corners graph voyage) 0 (subst T (ap (λ (x : ℕ × Bool). x .1) q) t)
+      go b t (inr (inr (inr (inl q)))) = eqb→eq (corners graph question) 0 (subst T (ap (λ (x : ℕ × Bool). x .1) q) t)
       go b t (inr (inr (inr (inr q)))) = absurd q
 
-  pub means : Means graph (voyage .start) (voyage .end) (voyage .way) (voyage .work) (shown graph before voyage)
+  pub means : Means graph (question .start) (question .end) (question .way) (question .work) (shown graph before question)
   unfolding shownOver StepsExact
   means = record {
-    best = λ z. subst (λ (w : List ℕ). Best graph (voyage .start) (voyage .end) w) (sym (taken z)) (is-best (corners graph voyage) refl (reached z));
+    best = λ z. subst (λ (w : List ℕ). Best graph (question .start) (question .end) w) (sym (taken z)) (is-best (corners graph question) refl (reached z));
     counted = λ z.
-        ap length (taken z) ∙ way-size (corners graph voyage) refl (reached z) ∙ sym (ap (λ (b : Bool). count-of b) (eq-eqb number 0 z));
+        ap length (taken z) ∙ way-size (corners graph question) refl (reached z) ∙ sym (ap (λ (b : Bool). count-of b) (eq-eqb number 0 z));
     uncounted = λ z. ap (λ (b : Bool). count-of b) (ne-eqb number 0 z);
-    none = λ e w y. let a = steps-exact graph (voyage .start) .none-shorter (voyage .end) w y .0 in let b = unreached e in omega arith;
-    exact = λ o. subst (λ (l : List ℕ). ExactSteps graph (voyage .start) l) (sym (front o)) (steps-exact graph (voyage .start));
-    all-dry = λ e d. front (inr e) ∙ steps-dry graph (voyage .start) (false→ (passable graph (voyage .start)) d);
+    none = λ e w y. let a = steps-exact graph (question .start) .none-shorter (question .end) w y .0 in let b = unreached e in omega arith;
+    exact = λ o. subst (λ (l : List ℕ). ExactSteps graph (question .start) l) (sym (front o)) (steps-exact graph (question .start));
+    all-dry = λ e d. front (inr e) ∙ steps-dry graph (question .start) (false→ (passable graph (question .start)) d);
     way-kept = way-rest (eqb number 0) refl;
     work-kept = work-rest (eqb number 0 || eqb number 20);
-    untouched = λ z w. (ap way-slice (ne-eqb number 0 z), λ i. cond (ne-eqb number 0 z i || ne-eqb number 20 w i) new-work (voyage .work));
+    untouched = λ z w. (ap way-slice (ne-eqb number 0 z), λ i. cond (ne-eqb number 0 z i || ne-eqb number 20 w i) new-work (question .work));
   }
     where
       -- the count that is returned, and the way slice, by whether there is a way
       count-of : Bool → ℕ
-      count-of b = cond b (corners graph voyage) 0
+      count-of b = cond b (corners graph question) 0
 
       way-slice : Bool → List ℕ
-      way-slice b = cond b new-way (voyage .way)
+      way-slice b = cond b new-way (question .way)
 
-      taken : number ≡ 0 → take (count-of (eqb number 0)) (way-slice (eqb number 0)) ≡ route graph voyage
+      taken : number ≡ 0 → take (count-of (eqb number 0)) (way-slice (eqb number 0)) ≡ route graph question
       taken z =
           ap (λ (b : Bool). take (count-of b) (way-slice b)) (eq-eqb number 0 z)
-          ∙ take-at (route graph voyage) (drop (length (route graph voyage)) (voyage .way)) (corners graph voyage)
-          (way-size (corners graph voyage) refl (reached z))
+          ∙ take-at (route graph question) (drop (length (route graph question)) (question .way)) (corners graph question)
+          (way-size (corners graph question) refl (reached z))
 
-      front : (number ≡ 0) ⊎ (number ≡ 20) → take (graph .size) (cond (eqb number 0 || eqb number 20) new-work (voyage .work)) ≡ numbers graph voyage
-      front o = ap (λ (b : Bool). take (graph .size) (cond b new-work (voyage .work))) (written-then o) ∙ front-work
+      front : (number ≡ 0) ⊎ (number ≡ 20) → take (graph .size) (cond (eqb number 0 || eqb number 20) new-work (question .work)) ≡ numbers graph question
+      front o = ap (λ (b : Bool). take (graph .size) (cond b new-work (question .work))) (written-then o) ∙ front-work
         where
           written-then : (number ≡ 0) ⊎ (number ≡ 20) → (eqb number 0 || eqb number 20) ≡ true
           written-then (inl z) = λ i. eq-eqb number 0 z i || eqb number 20
           written-then (inr z) = (λ i. eqb number 0 || eq-eqb number 20 z i) ∙ or-true (eqb number 0)
 
-      way-rest : (b : Bool) → eqb number 0 ≡ b → drop (count-of (eqb number 0)) (way-slice (eqb number 0)) ≡ drop (count-of (eqb number 0)) (voyage .way)
-      way-rest false e = ap (λ (b : Bool). drop (count-of b) (way-slice b)) e ∙ sym (ap (λ (b : Bool). drop (count-of b) (voyage .way)) e)
+      way-rest : (b : Bool) → eqb number 0 ≡ b → drop (count-of (eqb number 0)) (way-slice (eqb number 0)) ≡ drop (count-of (eqb number 0)) (question .way)
+      way-rest false e = ap (λ (b : Bool). drop (count-of b) (way-slice b)) e ∙ sym (ap (λ (b : Bool). drop (count-of b) (question .way)) e)
       way-rest true e =
-          let l = way-size (corners graph voyage) refl (reached (eqb-true number 0 e)) in
+          let l = way-size (corners graph question) refl (reached (eqb-true number 0 e)) in
           ap (λ (b : Bool). drop (count-of b) (way-slice b)) e
-          ∙ drop-at (route graph voyage) (drop (length (route graph voyage)) (voyage .way)) (corners graph voyage) l ∙ ap (λ (m : ℕ). drop m (voyage .way)) l
-          ∙ sym (ap (λ (b : Bool). drop (count-of b) (voyage .way)) e)
+          ∙ drop-at (route graph question) (drop (length (route graph question)) (question .way)) (corners graph question) l ∙ ap (λ (m : ℕ). drop m (question .way)) l
+          ∙ sym (ap (λ (b : Bool). drop (count-of b) (question .way)) e)
 
-      work-rest : (b : Bool) → drop (graph .size) (cond b new-work (voyage .work)) ≡ drop (graph .size) (voyage .work)
+      work-rest : (b : Bool) → drop (graph .size) (cond b new-work (question .work)) ≡ drop (graph .size) (question .work)
       work-rest true = rest-work
       work-rest false = refl
 
@@ -277,14 +277,14 @@ no-way-exactly tc tk ta clearance start end way work pass = (
 -- the result and the slices that are those of the rules mean what the request says
 pub promised : (call : Call) (amendments : List ℕ) {r : Passage} {way work : List ℕ} → Shows (answerAmended call amendments) r way work →
     Shows (answerAmended call amendments) r way work
-    × Means (graph-of (within call (amended (call .corners) amendments))) (call .voyage .start) (call .voyage .end) (call .voyage .way) (call .voyage .work)
+    × Means (graph-of (within call (amended (call .corners) amendments))) (call .question .start) (call .question .end) (call .question .way) (call .question .work)
     (shownBy r way work)
 unfolding PassageMeans
 promised call amendments s = (
   s,
   subst
-      (Means (graph-of (within call (amended (call .corners) amendments))) (call .voyage .start) (call .voyage .end) (call .voyage .way) (call .voyage .work))
+      (Means (graph-of (within call (amended (call .corners) amendments))) (call .question .start) (call .question .end) (call .question .way) (call .question .work))
       (sym (λ i. shownBy (s .result-is i) (s .way-is i) (s .work-is i)))
-      (passage-means (call .cells) (call .corners) amendments (call .clearance) (call .voyage .start) (call .voyage .end) (call .voyage .way)
-      (call .voyage .work)),
+      (passage-means (call .cells) (call .corners) amendments (call .clearance) (call .question .start) (call .question .end) (call .question .way)
+      (call .question .work)),
 )

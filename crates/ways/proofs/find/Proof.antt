@@ -12,7 +12,7 @@ call s = record {
   cells = s .args .cells .now;
   corners = s .args .corners .now;
   clearance = s .args .clearance;
-  voyage = record { start = s .args .start; end = s .args .end; way = s .args .way .now; work = s .args .work .now };
+  question = record { start = s .args .start; end = s .args .end; way = s .args .way .now; work = s .args .work .now };
 }
 
 -- from checks 1 to 6 to the start, and from what follows them to these checks
