@@ -1,4 +1,4 @@
--- The lowest corner joined to another that has some number, as the code chooses it among six links.
+-- The corner of lowest record number that is joined to another and has some rank, as the code chooses it among six links.
 use Prim.Native.Nat.{ℕ, zero, suc, _+_, _≤_, _<_}
 use mathlib.Core.Path.{_≡_, refl, sym, ap, _∙_, subst}
 use mathlib.Core.Logic.{_⊎_, inl, inr}
@@ -23,7 +23,7 @@ first-none f (suc n) i h = go (first-none f n (suc i) (λ j a b t. h j (omega ar
     go r true e = absurd (h i (omega arith) (omega arith) (subst T (sym e) tt))
     go r false e = r
 
--- corner j has the number m, and is joined to corner k
+-- corner j has the rank m, and is joined to corner k
 abbrev test : List ℕ → List ℕ → ℕ → ℕ → ℕ → ℕ → Bool
 test t r n k m j = eqb (getD r j 0) m && graphIn t n .joined k j
 

@@ -1,4 +1,4 @@
--- How many corners have a number, as a search goes on: f k is the number of corner k, or 0.
+-- How many corners have a rank, as a search goes on: f k is the rank of corner k, or 0.
 use Prim.Native.Nat.{ℕ, zero, suc, _+_, _≤_, _<_}
 use mathlib.Core.Path.{_≡_, refl, sym, ap, subst}
 use mathlib.Core.Logic.{_⊎_, inl, inr}
@@ -38,9 +38,9 @@ sum-once f g (suc n) a j h l e d = go (λ b. sum-once f g n (suc a) j b (omega a
         let r = sum-same f g (count (suc a) n) (λ k m. e k (λ y. let v = in-count n (suc a) k m .0 in omega arith)) in
         omega arith
 
--- ---- corners with a number
+-- ---- corners with a rank
 
--- how many corners have a number
+-- how many corners have a rank
 abbrev pub reached : (ℕ → ℕ) → ℕ → ℕ
 reached f n = sum (λ k. bit (not (eqb (f k) 0))) (count 0 n)
 
@@ -50,7 +50,7 @@ mark x h = ap (λ b. bit (not b)) (ne-eqb x 0 (λ e. omega arith))
 pub no-mark : (x : ℕ) → x ≡ 0 → bit (not (eqb x 0)) ≡ 0
 no-mark x h = ap (λ b. bit (not b)) (eq-eqb x 0 h)
 
--- one more corner has a number
+-- one more corner has a rank
 pub reached-more : (f g : ℕ → ℕ) (n j : ℕ) → j < n → f j ≡ 0 → 1 ≤ g j → ((k : ℕ) → (k ≡ j → ⊥) → g k ≡ f k) → reached g n ≡ reached f n + 1
 reached-more f g n j h e d o =
     sum-once (λ k. bit (not (eqb (f k) 0))) (λ k. bit (not (eqb (g k) 0))) n 0 j (omega arith) (omega arith)
@@ -68,7 +68,7 @@ reached-le f n =
     let d = length-count n 0 in
     omega arith
 
--- while a corner has no number, not all have one
+-- while a corner has no rank, not all have one
 pub reached-few : (f : ℕ → ℕ) (n j : ℕ) → j < n → f j ≡ 0 → reached f n < n
 reached-few f n j h e =
     let a = reached-more f g n j h e one-there others in

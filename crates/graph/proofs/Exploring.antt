@@ -1,4 +1,4 @@
--- The search as its loop has it: numbers and queue are lists, and the six links of a corner are followed at once.
+-- The search as its loop has it: ranks and queue are lists, and the six links of a corner are followed at once.
 use Prim.Native.Nat.{ℕ, zero, suc, _+_, _-_, _*_, _≤_, _<_}
 use mathlib.Core.Path.{_≡_, refl, sym, ap, _∙_, subst}
 use mathlib.Core.Logic.{_⊎_, inl, inr}
@@ -26,21 +26,21 @@ set-same [] j h = refl
 set-same (x ∷ l) zero h = refl
 set-same (x ∷ l) (suc j) h = ap (λ (r : List ℕ). x ∷ r) (set-same l j (omega arith))
 
--- what is past the corners has a number from the start on, so that it is never new
+-- what is past the corners has a rank from the start on, so that it is never new
 pub record Exploring (t : List ℕ) (n start : ℕ) (past : List ℕ) (s : Frontier) (head i : ℕ) : Type 0 where
   pub known : Searching t n start (at (s .found)) (at (s .queue)) head i (s .tail)
   pub queue-size : length (s .queue) ≡ 4878
   pub size : length (s .found) ≡ 4884
   pub kept : drop n (s .found) ≡ past
 
--- all links of a corner, one after the other
+-- where the first i links of corner k, which is at the head, are followed
 record Visited (t : List ℕ) (n start : ℕ) (past : List ℕ) (s : Frontier) (head k rank i : ℕ) : Type 0 where
   exploring : Exploring t n start past (visited t rank k i s) head i
   is-head : at (visited t rank k i s .queue) head ≡ k
   next : at (visited t rank k i s .found) k + 1 ≡ rank
   grown : head < visited t rank k i s .tail
 
--- what a search stands on: the corners are few, no link is above 4,872, and all that is past the corners has a number
+-- what a search stands on: the corners are few, no link is above 4,883, and all that is past the corners has a rank
 pub record Grounded (t : List ℕ) (n : ℕ) (past : List ℕ) : Type 0 where
   pub few : n ≤ 4872
   pub within : Within t
@@ -98,7 +98,7 @@ module _ {t : List ℕ} {n start : ℕ} {past : List ℕ} (ground : Grounded t n
       queue-stays : length queue-then ≡ 4878
       queue-stays = length-set (s .queue) (s .tail) link ∙ e .queue-size
 
-      -- a corner that has a number, or none at all
+      -- a corner that has a rank, or none at all
       over : eqb (at (s .found) link) 0 ≡ false → Exploring t n start past (after false) head (suc i)
       over f =
           let same : set (s .found) link (at (s .found) link) ≡ s .found = set-same (s .found) link link-listed in
@@ -147,7 +147,7 @@ module _ {t : List ℕ} {n start : ℕ} {past : List ℕ} (ground : Grounded t n
           go true f = fresh f
           go false f = over f
 
-      -- the corner at the head stays there, with its number
+      -- the corner at the head stays there, with its rank
       head-stays : at queue-then head ≡ k
       head-stays = earlier head h ∙ is-head
 
@@ -207,7 +207,7 @@ module _ {t : List ℕ} {n start : ℕ} {past : List ℕ} (ground : Grounded t n
       sym (take-append-drop n (s .found)) ∙ ap (λ (l : List ℕ). l ++ drop n (s .found)) v
       ∙ ap (λ (l : List ℕ). fewestSteps (graphIn t n) start ++ l) (e .kept)
 
--- ---- the numbers before the first turn
+-- ---- the ranks before the first turn
 
 -- a table of ones, of which those of the corners are cleared
 pub record Cleared (n start : ℕ) (lent cleared : List ℕ) : Type 0 where

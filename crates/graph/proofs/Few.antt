@@ -1,4 +1,4 @@
--- No corner has a number above the count of corners.
+-- No corner has a rank above the count of corners.
 use Prim.Native.Nat.{ℕ, zero, suc, _≤_}
 use mathlib.Core.Path.{_≡_, refl}
 use mathlib.Core.Logic.{inl, inr}

@@ -1,4 +1,4 @@
--- The rounds of `steps` are exact: a corner has its number as soon as a walk of so many steps can reach it, and no more rounds than corners are needed.
+-- The rounds of `fewestSteps` are exact: a corner has its rank as soon as a walk of so many steps can reach it, and no more rounds than corners are needed.
 use Prim.Native.Nat.{ℕ, zero, suc, _≤_, _<_}
 use mathlib.Core.Path.{_≡_, refl, sym, ap, _∙_, subst}
 use mathlib.Core.Logic.{_⊎_, inl, inr}
@@ -203,12 +203,12 @@ module _ {graph : Graph} {start n : ℕ} {r : List ℕ} (known : Known graph sta
 abbrev pub reachedCount : Graph → List ℕ → ℕ
 reachedCount graph r = reached (λ k. getD r k 0) (graph .size)
 
--- every corner that a walk reaches has a number
+-- every corner that a walk reaches has a rank
 abbrev pub Closed : Graph → ℕ → List ℕ → Type 0
 Closed graph start r = (k v : ℕ) → Walk graph v start k → 1 ≤ getD r k 0
 
 module _ {graph : Graph} {start n : ℕ} {r : List ℕ} (known : Known graph start n r) where
-  -- the number of a corner after one round more
+  -- the rank of a corner after one round more
   abbrev after-next : ℕ → ℕ
   after-next k = getD (new known) k 0
 

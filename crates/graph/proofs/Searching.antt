@@ -1,4 +1,4 @@
--- What holds while the search runs, over a graph: f k is the number of corner k, q x the corner in place x of the queue. The corners in the
+-- What holds while the search runs, over a graph: f k is the rank of corner k, q x the corner in place x of the queue. The corners in the
 -- places below `head` are done with, and of the one at `head` the first i links.
 use Prim.Native.Nat.{ℕ, zero, suc, _+_, _≤_, _<_}
 use mathlib.Core.Path.{_≡_, refl, sym, ap, _∙_, subst}
@@ -20,22 +20,22 @@ use Rattle.graph.proofs.Walks.{Walk, walk-on, walk-before, walk-last}
 use Rattle.graph.proofs.Rounds.{inside}
 use Rattle.graph.proofs.Steps.{Stepped}
 
--- a number that corner k may have, after one with the number m
+-- a rank that corner k may have, after one with the rank m
 pub record After (m x : ℕ) : Type 0 where
   pub some : 1 ≤ x
   pub near : x ≤ m + 1
 
 pub record Searching (t : List ℕ) (n start : ℕ) (f q : ℕ → ℕ) (head i tail : ℕ) : Type 0 where
-  -- the queue has each corner with a number, once
+  -- the queue has each corner with a rank, once
   pub corner : (x : ℕ) → x < tail → q x < n
   pub ranked : (x : ℕ) → x < tail → 1 ≤ f (q x)
   pub listed : (k : ℕ) → k < n → 1 ≤ f k → (x : ℕ) × (x < tail) × (q x ≡ k)
   pub counted : tail ≡ reached f n
-  -- numbers rise along the queue, by one at most from the head on
+  -- ranks rise along the queue, by one at most from the head on
   pub rising : (x y : ℕ) → x ≤ y → y < tail → f (q x) ≤ f (q y)
   pub close : head < tail → (x : ℕ) → x < tail → f (q x) ≤ f (q head) + 1
   pub deep : (x : ℕ) → x < tail → f (q x) ≤ x + 1
-  -- a number tells of a walk
+  -- a rank tells of a walk
   pub there : (k m : ℕ) → k < n → f k ≡ suc m → Walk (graphIn t n) m start k
   -- the links that are done with
   pub done : (x p : ℕ) → x < head → p < 6 → linkAt t (q x) p < n → After (f (q x)) (f (linkAt t (q x) p))
@@ -75,7 +75,7 @@ module _ {t : List ℕ} {n start : ℕ} {f q : ℕ → ℕ} {head i tail : ℕ} 
             let e : i ≡ p = omega arith in
             subst (λ (r : ℕ). linkAt t (q head) r < n → After (f (q head)) (g (linkAt t (q head) r))) e last o
 
-    -- a link that is no corner, or that has a number already
+    -- a link that is no corner, or that has a rank already
     old-link : (link < n → 1 ≤ f link) → link < n → After (f (q head)) (f link)
     old-link g l =
         let (x, a, e) = known .listed link l (g l) in

@@ -116,7 +116,7 @@ as-many graph both start end = let a = le start end in let b = le end start in o
         go zero e zero f = omega arith
         go zero e (suc b) f = let c = stepped graph x .least y b (turned graph both b y x (stepped graph y .there x b f)) .0 in absurd (omega arith)
 
--- the same numbers give the same way
+-- the same ranks give the same way
 pub followed-same : (t r q : List ℕ) (n : ℕ) → ((j : ℕ) → j < n → getD r j 0 ≡ getD q j 0) → (m k : ℕ) → followed t r n m k ≡ followed t q n m k
 followed-same t r q n h zero k = refl
 followed-same t r q n h (suc m) k =

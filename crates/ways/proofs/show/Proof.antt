@@ -9,7 +9,7 @@ use Rattle.edges.proofs.Readings.{no-refusal}
 use Rattle.edges.proofs.Surveyed.{corners-few}
 use Rattle.graph.specs.Table.{graphIn, followed}
 use Rattle.ways.proofs.Call.{Call, callOf, count}
-use Rattle.ways.proofs.Found.{Filled, Numbered, found-dry, found-none, found-few, found-some}
+use Rattle.ways.proofs.Found.{WithLinks, Ranked, found-dry, found-none, found-few, found-some}
 use borrow.Author.Needs.{needs}
 use Rattle.ways.proofs.show.Statement.{statement}
 use Rattle.ways.proofs.show.Tie as tie
@@ -18,8 +18,8 @@ use Rattle.ways.proofs.show.Tie as tie
 abbrev call : tie.Start → Call
 call s = callOf (s .args .cells .now) (s .args .corners .now) (s .args .asked) (s .args .way .now) (s .args .work .now)
 
-filled : (s : tie.Start) → Filled (call s) (s .args .wets .now) (s .args .links .now)
-filled s =
+with-links : (s : tie.Start) → WithLinks (call s) (s .args .wets .now) (s .args .links .now)
+with-links s =
     let (accepted, (marks, (linked, ((is-start, is-end), (way-fits, work-fits))))) = s .pre in
     record { marks = marks; linked = linked; fits = record { is-start = is-start; is-end = is-end; way-fits = way-fits; work-fits = work-fits } }
 
@@ -45,9 +45,9 @@ onwards s n =
     (s .args .asked .start)
     ++ drop n (s .args .way .now)
 
-numbered : (x : tie.After-rank-corners) →
-    Numbered (call (asked x)) (asked x .args .wets .now) (asked x .args .links .now) (x .rank-corners .last .1 .1 .1 .0)
-numbered x = record { filled = filled (asked x); wet = marked x .if1 .left; numbers = x .rank-corners .ensures }
+ranked : (x : tie.After-rank-corners) →
+    Ranked (call (asked x)) (asked x .args .wets .now) (asked x .args .links .now) (x .rank-corners .last .1 .1 .1 .0)
+ranked x = record { with-links = with-links (asked x); wet = marked x .if1 .left; numbers = x .rank-corners .ensures }
 
 cast-start : tie.Need-cast-start
 cast-start c = search needs
@@ -58,7 +58,7 @@ cast-end c = search needs
 shared-slice-read-if1 : tie.Need-shared-slice-read-if1
 shared-slice-read-if1 c =
     let s = begin c in
-    omega (arith, few s, filled s .marks .size, filled s .fits .is-start)
+    omega (arith, few s, with-links s .marks .size, with-links s .fits .is-start)
 
 clear-requires : tie.Need-clear-requires
 clear-requires c κs = search needs
@@ -73,12 +73,12 @@ returns : tie.Need-returns
 returns c =
     let k = c .before .before .before in
     let t = k .before .before in
-    found-dry (filled (begin (t .before))) (t .if1 .taken) _ (c .refused .ensures) _ (k .clear .ensures)
+    found-dry (with-links (begin (t .before))) (t .if1 .taken) _ (c .refused .ensures) _ (k .clear .ensures)
 
 rank-corners-requires : tie.Need-rank-corners-requires
 rank-corners-requires c κs =
     let s = begin (c .before .before) in
-    let h = filled s in
+    let h = with-links s in
     (h .linked .room, h .linked .within, few s, h .fits .is-start, h .fits .work-fits)
 
 mul-n : tie.Need-mul-n
@@ -97,7 +97,7 @@ returns-2 : tie.Need-returns-2
 returns-2 c =
     let t = c .before in
     let x = t .before .before .before .before in
-    found-none (numbered x) (t .if2 .taken) _ (c .refused2 .ensures)
+    found-none (ranked x) (t .if2 .taken) _ (c .refused2 .ensures)
 
 wide-requires : tie.Need-wide-requires
 wide-requires c κs = search needs
@@ -107,8 +107,8 @@ write-way-requires c κs =
     let w = c .before in
     let x = w .before .before .before .before .before in
     let s = asked x in
-    let h = filled s in
-    let n = found-few (numbered x) in (
+    let h = with-links s in
+    let n = found-few (ranked x) in (
       (h .linked .room, h .linked .within, few s, h .fits .is-start, h .fits .is-end),
       (omega (arith, n, w .wide .ensures, h .fits .way-fits), omega (arith, n, w .wide .ensures, few s)),
     )
@@ -116,7 +116,7 @@ write-way-requires c κs =
 cast-t26 : tie.Need-cast-t26
 cast-t26 c =
     let x = c .before .before .before .before .before .before .before .before .before in
-    omega (arith, found-few (numbered x), few (asked x))
+    omega (arith, found-few (ranked x), few (asked x))
 
 same-length-3 : tie.Need-same-length-3
 same-length-3 c = search needs
@@ -130,7 +130,7 @@ returns-3 c =
     let w = g .before .before in
     let z = w .before in
     let x = z .before .before .before .before in
-    found-some (numbered x) (z .if2 .left) _ (g .write-way .ensures ∙ ap (onwards (asked x)) (w .wide .ensures))
+    found-some (ranked x) (z .if2 .left) _ (g .write-way .ensures ∙ ap (onwards (asked x)) (w .wide .ensures))
 
 pub show-spec : {M : Type 1} → statement M
 show-spec =
