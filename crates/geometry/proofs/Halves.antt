@@ -10,7 +10,7 @@ use Rattle.base.specs.Lists.{bit}
 use Rattle.base.specs.Grid.{Place, Axis, X, Y, Z, along, move, back}
 use Rattle.rules.specs.Steps.{isUpper, above, other}
 use Rattle.base.proofs.Tests.{→true}
-use Rattle.base.proofs.Places.{along-put}
+use Rattle.base.proofs.Places.{along-put, back-move}
 use Rattle.octree.proofs.Aligned.{Multiple}
 use Rattle.geometry.proofs.Grid.{half}
 
@@ -56,11 +56,6 @@ module _ (a : Axis) where
 
   upper-half : (k : ℕ) (b : Bool) (p : Place) → Multiple (suc k) (along a p) → isUpper a (halfOf k b p) k ≡ b
   upper-half k b p h = ap (isHigh k) (along-half k b p) ∙ high-half k (along a p) h b
-
-back-move : (a : Axis) (s : ℕ) (p : Place) → back a s (move a s p) ≡ p
-back-move X s p = λ i. record { x = (let e : p .x + s - s ≡ p .x = omega arith in e) i; y = p .y; z = p .z }
-back-move Y s p = λ i. record { x = p .x; y = (let e : p .y + s - s ≡ p .y = omega arith in e) i; z = p .z }
-back-move Z s p = λ i. record { x = p .x; y = p .y; z = (let e : p .z + s - s ≡ p .z = omega arith in e) i }
 
 move-back : (a : Axis) (s : ℕ) (p : Place) → s ≤ along a p → move a s (back a s p) ≡ p
 move-back X s p h = λ i. record { x = (let e : p .x - s + s ≡ p .x = omega arith in e) i; y = p .y; z = p .z }

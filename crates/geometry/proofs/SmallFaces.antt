@@ -14,14 +14,14 @@ use lib.Dec.{T, eqb, eqb→eq, leb, leb→le, le→leb}
 use lib.Ieee.{Float}
 use lib.ListN.{replicate}
 use Rattle.base.specs.Lists.{any, keep, sum, bit}
-use Rattle.base.specs.Grid.{Place, origin, Axis, X, Y, Z, next, along, put, move, back, same}
+use Rattle.base.specs.Grid.{Place, origin, Axis, X, Y, Z, next, along, move, back, same}
 use Rattle.rules.specs.Survey.{Cell, cell, size, cellsOf, Survey, cellsFrom}
 use Rattle.rules.specs.Steps.{Side, upperSide, lowerSide, sideBy, sides, Face, face, sameFace, sideLow, splitAcross, smallFaces}
 use Rattle.rules.specs.Outputs.{accepted, surveyOf}
 use Rattle.base.proofs.Tests.{and→, →and, →true, either, tests-equal, bit-true, bit-le}
 use Rattle.base.proofs.Lists.{In, any→in, in→any}
 use Rattle.base.proofs.Sums.{sum-zero, sum-same, sum-le, in-sum, times}
-use Rattle.base.proofs.Places.{every-axis, same→, along-put, put-put, put-along}
+use Rattle.base.proofs.Places.{every-axis, same→, back-move}
 use Rattle.octree.specs.Lawful.{isAt, isCell, copies, Octree, Lawful}
 use Rattle.octree.proofs.Cells.{→at, →cell}
 use Rattle.octree.proofs.Accepted.{lawful}
@@ -79,14 +79,6 @@ any-once {A} t xs h = go (either (any t xs))
     go (inl s) = let (x, i, u) = any→in t xs s in omega (arith, in-sum (λ x. bit (t x)) xs x i, bit-true (t x) u, bit-true (any t xs) s)
     go (inr e) =
         sum-same (λ x. bit (t x)) (λ x. 0) xs (λ x i. bit-no (t x) (λ u. subst T e (in→any t xs x i u))) ∙ sum-zero xs ∙ sym (ap bit e)
-
--- a move up and back
-back-move : (a : Axis) (s : ℕ) (p : Place) → back a s (move a s p) ≡ p
-back-move a s p =
-    let n = along a p in
-    put-put a (along a (move a s p) - s) (n + s) p
-    ∙ ap (λ i. put a i p) (ap (λ i. i - s) (along-put a (n + s) p) ∙ (let e : n + s - s ≡ n = omega arith in e))
-    ∙ put-along a p
 
 -- ---- the cell across
 

@@ -209,16 +209,16 @@ module _ {t : List ℕ} {n start : ℕ} {past : List ℕ} (ground : Grounded t n
 
 -- ---- the ranks before the first turn
 
--- a table of ones, of which those of the corners are cleared
+-- a table with some rank everywhere, of which those of the corners are cleared
 pub record Cleared (n start : ℕ) (lent cleared : List ℕ) : Type 0 where
   pub few : n ≤ 4872
   pub is-start : start < n
-  pub ones : lent ≡ replicate 4884 257
+  pub ranked : lent ≡ replicate 4884 257
   pub clear : cleared ≡ replicate n 0 ++ drop n lent
 
 module _ {n start : ℕ} {lent cleared : List ℕ} (made : Cleared n start lent cleared) where
   lent-size : length lent ≡ 4884
-  lent-size = ap length (made .ones) ∙ length-replicate {A = ℕ} 4884 257
+  lent-size = ap length (made .ranked) ∙ length-replicate {A = ℕ} 4884 257
 
   pub cleared-size : length cleared ≡ 4884
   cleared-size = filled-length n 0 lent cleared (let z = lent-size in let few = made .few in omega arith) (made .clear) ∙ lent-size
@@ -226,10 +226,10 @@ module _ {n start : ℕ} {lent cleared : List ℕ} (made : Cleared n start lent 
   pub rest-kept : drop n (set cleared start 1) ≡ drop n lent
   rest-kept = drop-set-lt n cleared start 1 (made .is-start) ∙ ap (drop n) (made .clear) ∙ drop-at (replicate n 0) (drop n lent) n (length-replicate n 0)
 
-  pub past-ones : (k : ℕ) → n + k < 4884 → 1 ≤ at (drop n (set cleared start 1)) k
-  past-ones k h =
+  pub past-ranked : (k : ℕ) → n + k < 4884 → 1 ≤ at (drop n (set cleared start 1)) k
+  past-ranked k h =
       let a = getD-drop n lent k 0 in
-      let b = ap (λ (l : List ℕ). at l (n + k)) (made .ones) in
+      let b = ap (λ (l : List ℕ). at l (n + k)) (made .ranked) in
       let c = getD-replicate {A = ℕ} 4884 (n + k) 257 0 h in
       let d = ap (λ (l : List ℕ). at l k) rest-kept in
       omega arith

@@ -1,4 +1,4 @@
--- `steps` is exact, and nothing else is.
+-- `fewestSteps` is exact, and nothing else is.
 use Prim.Native.Nat.{ℕ, zero, suc, _≤_, _<_}
 use mathlib.Core.Path.{_≡_, refl, sym, _∙_}
 use mathlib.Core.Logic.{_⊎_, inl, inr}
@@ -12,7 +12,7 @@ use Rattle.graph.proofs.Walks.{Walk, walk-way, way-walk}
 use Rattle.graph.proofs.Counting.{reached-le}
 use Rattle.graph.proofs.Rounds.{After, Closed, Enough, after}
 
--- the same as `Exact`, in walks
+-- the same as `ExactSteps`, in walks
 pub record Stepped (graph : Graph) (start : ℕ) (r : List ℕ) : Type 0 where
   pub sized : length r ≡ graph .size
   pub there : (k m : ℕ) → getD r k 0 ≡ suc m → Walk graph m start k

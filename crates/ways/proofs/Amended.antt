@@ -1,4 +1,4 @@
--- The call for one graph-of, step by step as it goes: refused by a check of the tables, by 7 or 8, by 18 or 19, or a way with the corner table in force.
+-- The call step by step as it goes: refused by a check of the tables, by 7 or 8, by 18 or 19, or a way with the corner table in force.
 use Prim.Native.Nat.{ℕ}
 use mathlib.Core.Path.{_≡_, sym, ap, _∙_, subst}
 use mathlib.Core.Bool.{true}

@@ -1,4 +1,4 @@
--- What request 8 says of the call: the way shown is the best, none is reported exactly where there is none, the numbers are exact, nothing else is touched; and
+-- What request 8 says of the call: the way shown is the best, none is reported exactly where there is none, the ranks are exact, nothing else is touched; and
 -- the checks come in their order.
 use Prim.Native.Nat.{ℕ, zero, suc}
 use mathlib.Core.Path.{_≡_, refl, sym, ap, _∙_, subst}
@@ -264,7 +264,7 @@ no-way-exactly tc tk ta clearance start end way work pass = (
         passage-in-order tc tk ta clearance start end way work
         ∙ skip (passageOrder tc tk ta clearance start end (length way) (length work)) ((20, eqb reach 0) ∷ []) all-numbered pass
 
-    -- a number would tell of a way
+    -- a rank would tell of a way
     unreachable : ((w : List ℕ) → Way graph start end w → ⊥) → eqb reach 0 ≡ true
     unreachable none = eq-eqb reach 0 (zero-steps reach refl)
       where

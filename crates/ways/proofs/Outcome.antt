@@ -21,7 +21,7 @@ use Rattle.graph.proofs.Transfer.{steps-of, steps-dry, way-of, as-many}
 use Rattle.ways.specs.Shows.{Shows}
 use Rattle.ways.proofs.Call.{Question, Fits, shown, passage-of}
 
--- the corners numbered from the start, the number of the end, and the way
+-- the ranks from the start, that of the end, and the way
 abbrev pub numbers : Graph → Question → List ℕ
 numbers graph question = fewestSteps graph (question .start)
 
@@ -102,7 +102,7 @@ module _ {graph : Graph} {question : Question} {links : List ℕ} (ready : Ready
 
   module _ (wet : T (passable graph (question .start))) (work : List ℕ)
       (e : work ≡ fewestSteps (graphIn links (graph .size)) (question .start) ++ drop (graph .size) (question .work)) where
-    -- the number of the end, as the code finds it
+    -- the rank of the end, as the code finds it
     abbrev found : ℕ
     found = getD work (question .end) 0
 

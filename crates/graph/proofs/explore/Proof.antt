@@ -7,7 +7,7 @@ use lib.ListN.{length, getD, set, drop, length-replicate}
 use Rattle.rules.specs.Ways.{fewestSteps}
 use Rattle.graph.specs.Table.{graphIn, Frontier}
 use Rattle.graph.proofs.Exploring.{Exploring, Grounded, tail-few, rank-small, head-inside, next-head, all-done}
-use Rattle.graph.proofs.Exploring.{Cleared, cleared-size, first-ranks, rest-kept, past-ones}
+use Rattle.graph.proofs.Exploring.{Cleared, cleared-size, first-ranks, rest-kept, past-ranked}
 use Rattle.graph.proofs.Visiting.{frontier}
 use borrow.Author.Needs.{needs}
 use Rattle.graph.proofs.explore.Statement.{statement}
@@ -31,7 +31,7 @@ abbrev begin : tie.At-loop Inv-loop μ-loop → tie.Start Inv-loop μ-loop
 begin l = start (wiped l)
 
 made : (k : tie.After-clear Inv-loop μ-loop) → Cleared (start k .args .count) (start k .args .start) (start k .args .found .now) (k .clear .last .0)
-made k = record { few = start k .pre .0 .2; is-start = start k .pre .0 .3; ones = start k .pre .1 .0; clear = k .clear .ensures }
+made k = record { few = start k .pre .0 .2; is-start = start k .pre .0 .3; ranked = start k .pre .1 .0; clear = k .clear .ensures }
 
 module _ (l : tie.At-loop Inv-loop μ-loop) where
   -- what stands past the corners
@@ -39,7 +39,7 @@ module _ (l : tie.At-loop Inv-loop μ-loop) where
   past = drop (begin l .args .count) (set (wiped l .clear .last .0) (begin l .args .start) 1)
 
   ground : Grounded (begin l .args .links .now) (begin l .args .count) past
-  ground = record { few = begin l .pre .0 .2; within = begin l .pre .0 .1; some = past-ones (made (wiped l)) }
+  ground = record { few = begin l .pre .0 .2; within = begin l .pre .0 .1; some = past-ranked (made (wiped l)) }
 
   few : begin l .args .count ≤ 4872
   few = ground .few
