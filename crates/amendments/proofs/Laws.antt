@@ -246,3 +246,22 @@ module _ (tc tk ta : List ℕ) where
 pub checks-in-order : ChecksInOrder
 unfolding ChecksInOrder
 checks-in-order = in-order
+
+-- ---- the checks of the survey by itself, and what comes after them
+
+module _ (tc tk ta : List ℕ) where
+  -- the first of them that applies
+  abbrev pub surveyNumber : ℕ
+  surveyNumber = firstOf (checkOrder tc tk ta)
+
+  pub survey-numbered : T (numbered (checkOrder tc tk ta))
+  unfolding checkOrder amendmentChecks tableChecks
+  survey-numbered = tt
+
+  -- further checks come after them
+  pub after-survey : (us : List (ℕ × Bool)) → firstOf (checkOrder tc tk ta ++ us) ≡ cond (eqb surveyNumber 0) (firstOf us) surveyNumber
+  after-survey us = first-append (checkOrder tc tk ta) us survey-numbered
+
+  pub checked : checkAmended tc tk ta ≡ surveyNumber
+  unfolding ChecksInOrder
+  checked = checks-in-order tc tk ta .check

@@ -5,17 +5,17 @@ use mathlib.Core.Path.{_≡_, refl, sym, ap, _∙_}
 use mathlib.Core.Bool.{Bool, true, false, not, cond, true≢false}
 use mathlib.Core.List.{List, [], _∷_, _++_}
 use native.Mathlib.Omega.{arith}
-use lib.Dec.{T, eqb, eqb→eq}
+use lib.Dec.{eqb, eqb→eq}
 use lib.Ieee.{Float}
 use borrow.Author.Tests.{eqb-false, ne-eqb}
 use Rattle.base.proofs.Tests.{→true}
 use Rattle.rules.specs.OpenAtBox.{openAtBox}
 use Rattle.rules.specs.Outputs.{inRange, firstOf, tableChecks, soundingCheck, surveyChecks, checks, drawingChecks}
-use Rattle.rules.specs.Resounding.{amended, amendmentChecks, checkAmended, undrawn, drawAmended, checkOrder, ChecksInOrder}
+use Rattle.rules.specs.Resounding.{amended, amendmentChecks, undrawn, drawAmended, checkOrder}
 use Rattle.rules.specs.Calendar.{clearanceAt, badCalendar, noneHolds, calendarChecks, drawByCalendar}
-use Rattle.octree.proofs.Accepted.{numbered, first-append}
+use Rattle.octree.proofs.Accepted.{first-append}
 use Rattle.amendments.proofs.Calls.{tables-pass, amended-pass}
-use Rattle.amendments.proofs.Laws.{all-numbered, checks-in-order}
+use Rattle.amendments.proofs.Laws.{all-numbered, surveyNumber, after-survey}
 use Rattle.drawing.proofs.Outcome.{refused}
 use Rattle.drawing.proofs.Amended.{refused-is, drawn-is}
 use Rattle.calendar.specs.ReadingAt.{readingAt}
@@ -23,39 +23,26 @@ use Rattle.calendar.specs.declared.Reading.{Reading}
 use Rattle.calendar.specs.declared.Reading.the-variants.{Refused, Clearance}
 
 module _ (tc tk ta : List ℕ) where
-  -- the first check of the survey by itself that applies
-  abbrev pub surveyNumber : ℕ
-  surveyNumber = firstOf (checkOrder tc tk ta)
-
-  pub survey-numbered : T (numbered (checkOrder tc tk ta))
-  unfolding checkOrder amendmentChecks tableChecks
-  survey-numbered = tt
-
-  -- further checks come after those of the survey by itself
-  pub after : (us : List (ℕ × Bool)) → firstOf (checkOrder tc tk ta ++ us) ≡ cond (eqb surveyNumber 0) (firstOf us) surveyNumber
-  after us = first-append (checkOrder tc tk ta) us survey-numbered
-
-  pub checked : checkAmended tc tk ta ≡ surveyNumber
-  unfolding ChecksInOrder
-  checked = checks-in-order tc tk ta .check
+  abbrev first : ℕ
+  first = surveyNumber tc tk ta
 
   -- a survey that is refused by itself is drawn at no clearance
-  module _ (clearance : Float) (ps : List Float) (ts : List ℕ) (some : surveyNumber ≡ 0 → ⊥) where
+  module _ (clearance : Float) (ps : List Float) (ts : List ℕ) (some : first ≡ 0 → ⊥) where
     abbrev tablesNumber : ℕ
     tablesNumber = firstOf (amendmentChecks tc tk ta)
 
-    seven-after : surveyNumber ≡ cond (eqb tablesNumber 0) (firstOf (soundingCheck (amended tk ta) ∷ [])) tablesNumber
+    seven-after : first ≡ cond (eqb tablesNumber 0) (firstOf (soundingCheck (amended tk ta) ∷ [])) tablesNumber
     unfolding checkOrder
     seven-after = first-append (amendmentChecks tc tk ta) (soundingCheck (amended tk ta) ∷ []) (all-numbered tc tk ta)
 
     -- by 1 to 6, 14 or 15
-    by-tables : (tablesNumber ≡ 0 → ⊥) → drawAmended tc tk ta clearance ps ts ≡ undrawn surveyNumber ps ts
+    by-tables : (tablesNumber ≡ 0 → ⊥) → drawAmended tc tk ta clearance ps ts ≡ undrawn first ps ts
     by-tables apply =
         refused-is tc tk ta clearance ps ts tablesNumber refl apply
         ∙ ap (λ m. undrawn m ps ts) (sym (seven-after ∙ rw (ne-eqb tablesNumber 0 apply)))
 
     -- by 7 of the table as amended
-    seven-first : tablesNumber ≡ 0 → surveyNumber ≡ firstOf (drawingChecks tc (amended tk ta) clearance)
+    seven-first : tablesNumber ≡ 0 → first ≡ firstOf (drawingChecks tc (amended tk ta) clearance)
     unfolding drawingChecks checks surveyChecks tableChecks
     seven-first pass = seven-after ∙ rw pass (go (seven .1) (λ z. some (seven-after ∙ rw (pass, z) refl)) ∙ sym behind-tables)
       where
@@ -74,16 +61,16 @@ module _ (tc tk ta : List ℕ) where
         go true applies = refl
         go false applies = absurd (applies refl)
 
-    by-seven : tablesNumber ≡ 0 → drawAmended tc tk ta clearance ps ts ≡ undrawn surveyNumber ps ts
+    by-seven : tablesNumber ≡ 0 → drawAmended tc tk ta clearance ps ts ≡ undrawn first ps ts
     by-seven pass =
-        let d = refused tc (amended tk ta) clearance ps ts surveyNumber (seven-first pass) some in
+        let d = refused tc (amended tk ta) clearance ps ts first (seven-first pass) some in
         drawn-is tc tk ta clearance ps ts pass
         ∙ (λ i. record { result = sym (d .result-is) i; points = sym (d .points-are) i; triangles = sym (d .triangles-are) i })
 
-    pub survey-undrawn : drawAmended tc tk ta clearance ps ts ≡ undrawn surveyNumber ps ts
+    pub survey-undrawn : drawAmended tc tk ta clearance ps ts ≡ undrawn first ps ts
     survey-undrawn = go (eqb tablesNumber 0) refl
       where
-        go : (b : Bool) → eqb tablesNumber 0 ≡ b → drawAmended tc tk ta clearance ps ts ≡ undrawn surveyNumber ps ts
+        go : (b : Bool) → eqb tablesNumber 0 ≡ b → drawAmended tc tk ta clearance ps ts ≡ undrawn first ps ts
         go true e = by-seven (eqb→eq tablesNumber 0 (→true e))
         go false e = by-tables (eqb-false tablesNumber 0 e)
 
@@ -138,7 +125,7 @@ module _ (tc tk ta t : List ℕ) (minute : ℕ) (ps : List Float) (ts : List ℕ
   unfolding drawByCalendar calendarChecks
   undrawn-by n e =
       let (is, some) = refused→ t minute n e in
-      rw (after tc tk ta (own t minute), after tc tk ta ((n, true) ∷ []), is) (go (eqb (surveyNumber tc tk ta) 0) refl some)
+      rw (after-survey tc tk ta (own t minute), after-survey tc tk ta ((n, true) ∷ []), is) (go (eqb (surveyNumber tc tk ta) 0) refl some)
     where
       m : ℕ
       m = surveyNumber tc tk ta
@@ -152,7 +139,7 @@ module _ (tc tk ta t : List ℕ) (minute : ℕ) (ps : List Float) (ts : List ℕ
   pub drawn-by : badCalendar t ≡ false → noneHolds t minute ≡ false
       → drawByCalendar tc tk ta t minute ps ts ≡ drawAmended tc tk ta (clearanceAt t minute) ps ts
   unfolding drawByCalendar calendarChecks
-  drawn-by lawful held = rw (after tc tk ta (own t minute), lawful, held) (go (eqb n 0) refl)
+  drawn-by lawful held = rw (after-survey tc tk ta (own t minute), lawful, held) (go (eqb n 0) refl)
     where
       n : ℕ
       n = surveyNumber tc tk ta

@@ -21,9 +21,9 @@ use Rattle.rules.specs.Calendar.{noneHolds, calendarChecks, drawByCalendar, InF
 use Rattle.rules.specs.Calendar.{CalendarInOrder}
 use Rattle.rules.specs.declared.Period.{Period}
 use Rattle.octree.proofs.Accepted.{numbered, first-append, first-none}
-use Rattle.amendments.proofs.Laws.{checks-in-order}
+use Rattle.amendments.proofs.Laws.{checks-in-order, surveyNumber, survey-numbered, after-survey}
 use Rattle.calendar.proofs.Periods.{allFollow, all-follow-is, few, not-ahead}
-use Rattle.calendar.proofs.Calls.{surveyNumber, survey-numbered, after, own, drawn-by}
+use Rattle.calendar.proofs.Calls.{own, drawn-by}
 
 -- ---- a lawful calendar
 
@@ -104,7 +104,7 @@ at-most-one t minute j k a b = sym (first-held t minute j a) ∙ first-held t mi
 
 pub empty-gives-seventeen : EmptyGivesSeventeen
 unfolding EmptyGivesSeventeen drawByCalendar calendarChecks badCalendar noneHolds periodsOf inTurn
-empty-gives-seventeen tc tk ta minute ps ts pass = rw (after tc tk ta (own [] minute), pass) refl
+empty-gives-seventeen tc tk ta minute ps ts pass = rw (after-survey tc tk ta (own [] minute), pass) refl
 
 calendar-numbered : (tc tk ta t : List ℕ) (minute : ℕ) → T (numbered (calendarChecks tc tk ta t minute))
 unfolding calendarChecks checkOrder amendmentChecks tableChecks
@@ -120,7 +120,7 @@ further-first tc tk ta v ps ts pass =
     let further : List (ℕ × Bool) = (8, not (inRange v)) ∷ (12, openAtBox (amended tk ta) v) ∷ [] in
     let in-order : InOrder tc tk ta = unfold ChecksInOrder in checks-in-order tc tk ta in
     in-order .drawing v ps ts
-    ∙ ap firstOf (append-assoc (checkOrder tc tk ta) further slices) ∙ after tc tk ta (further ++ slices) ∙ rw pass refl
+    ∙ ap firstOf (append-assoc (checkOrder tc tk ta) further slices) ∙ after-survey tc tk ta (further ++ slices) ∙ rw pass refl
 
 pub calendar-in-order : CalendarInOrder
 unfolding CalendarInOrder drawByCalendar calendarChecks

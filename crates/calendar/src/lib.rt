@@ -90,9 +90,8 @@ fn refused(cells: &[u8], corners: &[u8], amendments: &[u8], number: u32) -> Draw
       triangles = 0;
     } ⌝ }
 {
-    let first = checks::check(cells, corners, amendments);
     Drawn {
-        number: if first != 0 { first } else { number },
+        number: checks::check_first(cells, corners, amendments, number),
         points: 0,
         triangles: 0,
     }

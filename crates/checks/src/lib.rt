@@ -2,13 +2,14 @@
 // cells and octants.
 ghost use mathlib.Core.Path.{_≡_};
 ghost use mathlib.Core.Bool.{true, not};
+ghost use mathlib.Core.List.{[], _∷_, _++_};
 ghost use Prim.Native.Nat.{_+_, _*_, _≤_, _<_, _/_};
 ghost use lib.ListN.{length, getD, set, take};
 ghost use lib.Dec.{ltb, eqb};
 ghost use Rattle.base.specs.Lists.{all, any, count as upTo};
 ghost use Rattle.rules.specs.Survey.{recordCount, entries, cellsOf, cornersOf};
 ghost use Rattle.rules.specs.Outputs.{cornerLimit, badTable, entriesRight, rising, cornersRight, inRange, firstOf, tableChecks, surveyRefusal, checks};
-ghost use Rattle.rules.specs.Resounding.{checkAmended};
+ghost use Rattle.rules.specs.Resounding.{checkAmended, checkOrder};
 ghost use Rattle.records.specs.Keys.{placesOf};
 ghost use Rattle.cells.specs.Laid.{Laid};
 ghost use Rattle.octants.specs.Octants.{LookedUp};
@@ -194,4 +195,15 @@ pub fn check(cells: &[u8], corners: &[u8], amendments: &[u8]) -> u32
         return soundings(cells, corners);
     }
     check_amended(cells, corners, amendments)
+}
+
+// Where a call refuses something that it is lent besides, by a number: the first refusal of the survey by itself, and only then that number.
+pub fn check_first(cells: &[u8], corners: &[u8], amendments: &[u8], number: u32) -> u32
+    ensures { λ r. ⌜ r ≡ firstOf (checkOrder (now (cells .entry)) (now (corners .entry)) (now (amendments .entry)) ++ (number, true) ∷ []) ⌝ }
+{
+    let first = check(cells, corners, amendments);
+    if first != 0 {
+        return first;
+    }
+    number
 }

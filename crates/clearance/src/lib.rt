@@ -20,6 +20,7 @@ ghost use Rattle.rules.specs.Water.{beyondBox};
 ghost use Rattle.rules.specs.Resounding.{amended, checkAmended, enquiryAmended, drawAmended, volumeAmended};
 ghost use Rattle.rules.specs.Calendar.{periodAt, clearanceAt, drawByCalendar, InForce};
 ghost use Rattle.rules.specs.Ways.{cornerGraph, passageAmended, Means};
+ghost use Rattle.rules.specs.Convoy.{convoyGraph, convoyAmended, clearanceOf, Greatest};
 ghost use Rattle.ways.specs.Shows.{Shows, shownBy};
 ghost use Rattle.enquiry.specs.Enquiry.{lowerEnd};
 ghost use Rattle.water.specs.Corners.{referencePlace};
@@ -94,7 +95,7 @@ fn reply_of(a: Answer) -> Reply
 }
 
 // CLEARANCE_VERSION of the header that fits.
-const VERSION: u32 = 2;
+const VERSION: u32 = 3;
 
 // The number of this version of the calls: a program sees by it that the header it was compiled with and the archive fit.
 #[no_mangle]
@@ -226,4 +227,36 @@ pub extern "C" fn clearance_way(
         (now (way .entry)) (now (work .entry)) (shownBy r (now (way .exit)) (now (work .exit))) ⌝ }
 {
     ways::find(cells, corners, amendments, clearance, start, end, way, work)
+}
+
+// Shows the way as clearance_way does, over corners that are wet at each of 1 to 16 clearances.
+#[no_mangle]
+pub extern "C" fn clearance_convoy(
+    cells: &[u8],
+    corners: &[u8],
+    amendments: &[u8],
+    clearances: &[f32],
+    start: u32,
+    end: u32,
+    way: &mut [u16],
+    work: &mut [u16],
+) -> Passage
+    ensures exact { λ r. ⌜ Shows (convoyAmended (now (cells .entry)) (now (corners .entry)) (now (amendments .entry)) (now (clearances .entry)) start end
+        (now (way .entry)) (now (work .entry))) r (now (way .exit)) (now (work .exit)) ⌝ }
+    ensures means { λ r. ⌜ Means (convoyGraph (now (cells .entry)) (amended (now (corners .entry)) (now (amendments .entry))) (now (clearances .entry))) start end
+        (now (way .entry)) (now (work .entry)) (shownBy r (now (way .exit)) (now (work .exit))) ⌝ }
+    ensures as_greatest { λ r. ⌜ ((k : ℕ) → Greatest (now (clearances .entry)) k
+        → Shows (passageAmended (now (cells .entry)) (now (corners .entry)) (now (amendments .entry)) (clearanceOf (now (clearances .entry)) k) start end
+        (now (way .entry)) (now (work .entry))) r (now (way .exit)) (now (work .exit))) ⌝ }
+{
+    convoy::find(
+        cells,
+        corners,
+        amendments,
+        clearances,
+        start,
+        end,
+        way,
+        work,
+    )
 }

@@ -112,7 +112,8 @@ passed : (b : Bool) → not b ≡ false → T b
 passed true e = tt
 passed false e = absurd (subst T e tt)
 
-none-of : {A : Type 0} (f : A → Bool) (xs : List A) → any (λ x. not (f x)) xs ≡ false → (x : A) → In x xs → T (f x)
+-- where no element fails a test, each passes it
+pub none-of : {A : Type 0} (f : A → Bool) (xs : List A) → any (λ x. not (f x)) xs ≡ false → (x : A) → In x xs → T (f x)
 none-of f xs e x i = go (either (f x))
   where
     go : T (f x) ⊎ (f x ≡ false) → T (f x)

@@ -23,7 +23,7 @@ use Rattle.places.proofs.Reckoned.{way, moving-up, moving-down}
 
 -- ---- t lies from 0 to 1
 
-finite-in : (x : Float) → T (inRange x) → T (finite x)
+pub finite-in : (x : Float) → T (inRange x) → T (finite x)
 unfolding inRange le
 finite-in (inf true) h = absurd h
 finite-in (inf false) h = absurd h

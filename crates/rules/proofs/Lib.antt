@@ -8,3 +8,4 @@ pub mod Volumes
 pub mod Resounding
 pub mod Calendar
 pub mod Ways
+pub mod Convoy

@@ -25,10 +25,10 @@ pub record Passed : Type 0 where
   pub answer : List ℕ
 
 -- what stands in every element of the slices before
-abbrev old : ℕ
+abbrev pub old : ℕ
 old = 65535
 
-abbrev numbersOf : Shown → List ℕ
+abbrev pub numbersOf : Shown → List ℕ
 numbersOf s = s .result .number ∷ s .result .corners ∷ s .way ++ s .work
 
 abbrev given : Passed → List ℕ
@@ -37,7 +37,7 @@ given x =
     numbersOf (passageAmended (x .shape .cells) t (x .amendments) (ofBits binary32 (x .clearance)) (x .start) (x .end)
     (replicate (x .wayLength) old) (replicate (x .workLength) old))
 
-abbrev sameNumbers : List ℕ → List ℕ → Bool
+abbrev pub sameNumbers : List ℕ → List ℕ → Bool
 sameNumbers [] [] = true
 sameNumbers [] (y ∷ ys) = false
 sameNumbers (x ∷ xs) [] = false
@@ -55,7 +55,7 @@ inLeaf f a b r = lent f 0 a b 8 8 r
 abbrev inSplit : Soundings → ℕ → ℕ → List ℕ → Passed
 inSplit f a b r = record { shape = split; soundings = f; amendments = []; clearance = 0; start = a; end = b; wayLength = 27; workLength = 27; answer = r }
 
-abbrev allWet : Soundings
+abbrev pub allWet : Soundings
 allWet = λ p. one
 
 -- a leaf with all corners wet, and amendments

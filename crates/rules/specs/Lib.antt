@@ -12,4 +12,5 @@ pub mod Water
 pub mod Resounding
 pub mod Calendar
 pub mod Ways
+pub mod Convoy
 pub mod AsAmended
