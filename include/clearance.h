@@ -3,9 +3,9 @@
  *
  * A survey is a cell table (an octree), a corner table (a sounding at every corner of every cell) and amendments to that (corners sounded again). At a
  * clearance, given by hand or by a calendar and a minute, the surface between wet and dry corners is drawn as points on the octree's edges and triangles
- * between them; the space inside is reckoned; and from corner to corner the way of fewest steps over wet ones is shown. The calls are those of document 01,
- * the scope document, with what the requests of document 02 add and change; what they return, and what they write, is proved equal to the documents' rules
- * for every input.
+ * between them; the space inside is reckoned; and from corner to corner the way of fewest steps over wet ones is shown, for one boat or for a convoy. The
+ * calls are those of document 01, the scope document, with what the requests of document 02 add and change; what they return, and what they write, is proved
+ * equal to the documents' rules for every input.
  *
  * BUILDING
  *
@@ -63,11 +63,20 @@
  *
  * Only the clearance in force must be lawful (8). That of every other record may be anything, not a number too.
  *
+ * THE CONVOY
+ *
+ * Boats of a convoy follow one another on one line, each with its own clearance. For 1 to 16 clearances, in any order and equal ones among them, one way is
+ * shown for all: a corner is on it only if it is wet at every one of them. That is the way of one boat at the greatest of them, work slice included, and there
+ * is none only where that boat has none.
+ *
+ * A convoy of no clearance or of more than 16 is refused (21), and nothing of it is read then. Every clearance must be lawful, not the greatest alone (8).
+ *
  * WHAT THE CALLER LENDS
  *
  * A slice passes as a pointer and a number of elements (not bytes). It is lent for the call: nothing of it is kept, and it stays the caller's to free.
  *
  *   - Cell, corner and amendment tables and calendars are read only, may lie at any address, and may overlap each other.
+ *   - The clearances of a convoy are read only, aligned to 4 bytes, and may overlap the tables.
  *   - Point and triangle slices are aligned to 4 bytes, way and work slices to 2, and each overlaps no other slice.
  *   - A slice of 0 elements may have any pointer, NULL too: it is not followed.
  *   - Nobody else writes to a slice while the call runs.
@@ -82,8 +91,8 @@
  * REFUSALS
  *
  * What can't be drawn or shown is refused by a number, enum clearance_refusal below. Checks run in rising number, but for 12 and 13, which stand between 8
- * and 9, 14 and 15, which stand between 6 and 7, and 16 and 17, which stand between 7 and 8; the first that applies is returned. A refused call has written
- * nothing, but for 20, with which the work slice is written, and it alone. In their order:
+ * and 9, 14 and 15, which stand between 6 and 7, and 16, 17 and 21, which stand between 7 and 8; the first that applies is returned. A refused call has
+ * written nothing, but for 20, with which the work slice is written, and it alone. In their order:
  *
  *   clearance_check              1 2 3 4 5 6 14 15 7
  *   clearance_enquire            1 2 3 4 5 6 14 15 7 8 11
@@ -91,6 +100,7 @@
  *   clearance_draw_by_calendar   1 2 3 4 5 6 14 15 7 16 17 8 12 9 10
  *   clearance_volume             1 2 3 4 5 6 14 15 7 8 12 13 9 10
  *   clearance_way                1 2 3 4 5 6 14 15 7 8 18 19 20
+ *   clearance_convoy             1 2 3 4 5 6 14 15 7 21 8 18 19 20
  *
  * So a number's size does not tell what it means. A drawing is there to be had with 0, CLEARANCE_POINT_SLICE and CLEARANCE_TRIANGLE_SLICE, and with
  * nothing else: ask for these by name. A program that takes every number from CLEARANCE_POINT_SLICE on for a drawing takes a pool that is open at the
@@ -107,7 +117,7 @@ extern "C" {
 #endif
 
 /* The number of the calls below. It goes up by 1 with every change of what a call takes, returns or refuses, and with every call that is added. */
-#define CLEARANCE_VERSION 2
+#define CLEARANCE_VERSION 3
 
 /* The size of a corner record, and of an amendment, in bytes. */
 #define CLEARANCE_CORNER_BYTES 12
@@ -120,6 +130,9 @@ extern "C" {
 #define CLEARANCE_MOST_CELL_BYTES 8196
 #define CLEARANCE_MOST_CORNER_BYTES 58464
 #define CLEARANCE_MOST_AMENDMENT_BYTES 12000
+
+/* The most clearances of a convoy. */
+#define CLEARANCE_MOST_BOATS 16
 
 /* The numbers returned: 0 if nothing is refused, else why. */
 enum clearance_refusal {
@@ -142,7 +155,8 @@ enum clearance_refusal {
     CLEARANCE_MINUTE = 17, /* the minute is in no record of the calendar */
     CLEARANCE_WAY_END = 18, /* the start or the end is no corner */
     CLEARANCE_WAY_SLICE = 19, /* the way slice or the work slice is shorter than the corner count */
-    CLEARANCE_NO_WAY = 20 /* no way over wet corners leads from the start to the end */
+    CLEARANCE_NO_WAY = 20, /* no way over wet corners leads from the start to the end */
+    CLEARANCE_CONVOY = 21 /* the convoy has no clearance or more than 16 */
 };
 
 /* The words of a number that was returned: those beside it in enum clearance_refusal. */
@@ -170,6 +184,7 @@ static inline const char *clearance_words(uint32_t number)
     case CLEARANCE_WAY_END: return "the start or the end is no corner";
     case CLEARANCE_WAY_SLICE: return "the way slice or the work slice is shorter than the corner count";
     case CLEARANCE_NO_WAY: return "no way over wet corners leads from the start to the end";
+    case CLEARANCE_CONVOY: return "the convoy has no clearance or more than 16";
     default: return "no refusal has this number";
     }
 }
@@ -303,6 +318,15 @@ struct clearance_passage {
 struct clearance_passage clearance_way(const uint8_t *cells, size_t cells_length, const uint8_t *corners, size_t corners_length,
     const uint8_t *amendments, size_t amendments_length, float clearance, uint32_t start, uint32_t end, uint16_t *way, size_t way_length, uint16_t *work,
     size_t work_length);
+
+/*
+ * Shows one way for the boats of a convoy: as clearance_way, but over corners that are wet at all of the clearances. With clearances that are not refused
+ * (21, 8) the result, and the elements of both slices, are those of clearance_way at the greatest of them. This is proved. Where the greatest is zero, it
+ * is the same whether +0 or -0 is taken.
+ */
+struct clearance_passage clearance_convoy(const uint8_t *cells, size_t cells_length, const uint8_t *corners, size_t corners_length,
+    const uint8_t *amendments, size_t amendments_length, const float *clearances, size_t clearances_length, uint32_t start, uint32_t end, uint16_t *way,
+    size_t way_length, uint16_t *work, size_t work_length);
 
 #ifdef __cplusplus
 }

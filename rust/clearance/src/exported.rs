@@ -140,6 +140,23 @@ extern "C" {
         work: *mut u16,
         work_length: usize,
     ) -> Passage;
+
+    fn clearance_convoy(
+        cells: *const u8,
+        cells_length: usize,
+        corners: *const u8,
+        corners_length: usize,
+        amendments: *const u8,
+        amendments_length: usize,
+        clearances: *const f32,
+        clearances_length: usize,
+        start: u32,
+        end: u32,
+        way: *mut u16,
+        way_length: usize,
+        work: *mut u16,
+        work_length: usize,
+    ) -> Passage;
 }
 
 pub fn version() -> u32 {
@@ -272,6 +289,34 @@ pub fn way(
             amendments.as_ptr(),
             amendments.len(),
             clearance,
+            start,
+            end,
+            way.as_mut_ptr(),
+            way.len(),
+            work.as_mut_ptr(),
+            work.len(),
+        )
+    }
+}
+
+pub fn convoy(
+    Survey { cells, corners, amendments }: Survey,
+    clearances: &[f32],
+    [start, end]: [u32; 2],
+    way: &mut [u16],
+    work: &mut [u16],
+) -> Passage {
+    // SAFETY: as for `way`. The clearances are lent for reading.
+    unsafe {
+        clearance_convoy(
+            cells.as_ptr(),
+            cells.len(),
+            corners.as_ptr(),
+            corners.len(),
+            amendments.as_ptr(),
+            amendments.len(),
+            clearances.as_ptr(),
+            clearances.len(),
             start,
             end,
             way.as_mut_ptr(),

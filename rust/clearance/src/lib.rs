@@ -2,10 +2,10 @@
 //!
 //! A [survey](Survey) is a cell table (an octree), a corner table (a sounding at every corner of every cell) and amendments to that, all as bytes. At a
 //! clearance, given by hand or by a calendar and a minute, the surface between wet and dry corners is drawn as points on the octree's edges and triangles
-//! between them; and from corner to corner the [way] of fewest steps over wet ones is shown. The calls are those of document 01, with what the requests of document
-//! 02 add and change; what they return, and what they write, is proved equal to the documents' rules for every input. What can't be drawn or shown is refused
-//! by one of the twenty [refusals](Refusal). What is drawn is closed: between any two points triangles run one way as often as the other. So the space inside
-//! is one number, wherever it is reckoned from.
+//! between them; and from corner to corner the [way] of fewest steps over wet ones is shown, for one boat or for a [convoy]. The calls are those of
+//! document 01, with what the requests of document 02 add and change; what they return, and what they write, is proved equal to the documents' rules for
+//! every input. What can't be drawn or shown is refused by one of the 21 [refusals](Refusal). What is drawn is closed: between any two points triangles run
+//! one way as often as the other. So the space inside is one number, wherever it is reckoned from.
 //!
 //! Nothing is kept between calls and nothing is allocated inside them, so any number of threads may call. A call needs less than 576 KiB of stack.
 //!
@@ -87,7 +87,7 @@ pub use survey::Survey;
 
 /// The number of the calls that this crate makes, as `CLEARANCE_VERSION` in the C header. It goes up with every change of what a call takes, returns or
 /// refuses, and with every call that is added.
-pub const VERSION: u32 = 2;
+pub const VERSION: u32 = 3;
 
 /// The size of a corner record in bytes.
 const CORNER_BYTES: usize = 12;
@@ -434,13 +434,7 @@ pub fn way(
     way: &mut [u16],
     work: &mut [u16],
 ) -> Result<Option<usize>, Refusal> {
-    let exported::Passage { number, corners } = exported::way(survey, clearance, [start, end], way, work);
-    assert!(number == 0 || corners == 0, "refusal {number} with {corners} corners");
-    match passed(number) {
-        Ok(()) => Ok(Some(corners as usize)),
-        Err(Refusal::NoWay) => Ok(None),
-        Err(refusal) => Err(refusal),
-    }
+    shown(exported::way(survey, clearance, [start, end], way, work))
 }
 
 /// Shows a way as [`way`] does, in vectors that are exactly long enough.
@@ -467,9 +461,92 @@ pub fn way(
 ///
 /// The first refusal of [`check`], then 8 and 18, that applies.
 pub fn way_to_vec(survey: Survey, clearance: f32, start: u32, end: u32) -> Result<Passage, Refusal> {
+    passage_into_vectors(survey, |shown, work| way(survey, clearance, start, end, shown, work))
+}
+
+/// Shows one way for the boats of a convoy, 1 to 16 clearances: as [`way`] does, but over corners that are wet at all of them. The result, and the elements of
+/// both slices, are those of [`way`] at the greatest of them. This is proved. Where the greatest is zero, it is the same whether +0 or -0 is taken.
+///
+/// [`convoy_to_vec`] shows it in vectors of its own.
+///
+/// ```
+/// use clearance::{convoy, way, Refusal, Survey};
+///
+/// fn record(number: u16, sounding: f32) -> Vec<u8> {
+///     let place = [0, 1, 2].map(|axis| 1_024 * (number >> axis & 1));
+///     let place = place.iter().flat_map(|coordinate| coordinate.to_le_bytes());
+///     place.chain(sounding.to_le_bytes()).chain(0u16.to_le_bytes()).collect()
+/// }
+///
+/// // The box is one leaf. All of its eight corners are wet at a clearance of 1, but corner 1 is dry at one of 2.
+/// let corners: Vec<u8> = (0..8).flat_map(|number| record(number, if number == 1 { 1.5 } else { 3.0 })).collect();
+/// let survey = Survey::new(&[0; 4], &corners);
+/// let (mut shown, mut work) = ([0; 8], [0; 8]);
+/// assert_eq!(convoy(survey, &[1.0, 0.5], 0, 3, &mut shown, &mut work)?, Some(3));
+/// assert_eq!(shown[..3], [0, 1, 3]);
+/// assert_eq!(convoy(survey, &[1.0, 2.0, 0.5], 0, 3, &mut shown, &mut work)?, Some(3));
+/// assert_eq!((&shown[..3], work), (&[0, 2, 3][..], [1, 0, 2, 3, 2, 3, 3, 4]));
+/// let (mut for_one, mut work_for_one) = ([0; 8], [0; 8]);
+/// assert_eq!(way(survey, 2.0, 0, 3, &mut for_one, &mut work_for_one)?, Some(3));
+/// assert_eq!((&shown[..3], work), (&for_one[..3], work_for_one));
+/// assert_eq!(convoy(survey, &[1.0, 2.0, 3.0], 0, 3, &mut shown, &mut work)?, None);
+///
+/// assert_eq!(convoy(survey, &[], 0, 3, &mut shown, &mut work), Err(Refusal::Convoy));
+/// assert_eq!(convoy(survey, &[1.0; 17], 0, 3, &mut shown, &mut work), Err(Refusal::Convoy));
+/// assert_eq!(convoy(survey, &[1.0, f32::NAN], 0, 3, &mut shown, &mut work), Err(Refusal::Clearance));
+/// # Ok::<(), Refusal>(())
+/// ```
+///
+/// # Errors
+///
+/// The first refusal of [`check`], then 21, 8, 18 and 19, that applies; then neither slice was touched.
+pub fn convoy(
+    survey: Survey,
+    clearances: &[f32],
+    start: u32,
+    end: u32,
+    way: &mut [u16],
+    work: &mut [u16],
+) -> Result<Option<usize>, Refusal> {
+    shown(exported::convoy(survey, clearances, [start, end], way, work))
+}
+
+/// Shows one way for the boats of a convoy as [`convoy`] does, in vectors that are exactly long enough.
+///
+/// ```
+/// use clearance::{convoy_to_vec, way_to_vec, Refusal, Survey};
+///
+/// // The twin survey's one wet corner, (256, 512, 512), is record 31; the last one, 45, is (1024, 1024, 1024). Below a clearance of -1 every corner is wet.
+/// let cells = std::fs::read("../../examples/twin/cells")?;
+/// let corners = std::fs::read("../../examples/twin/corners")?;
+/// let survey = Survey::new(&cells, &corners);
+/// let through = convoy_to_vec(survey, &[-2.0, -1.5], 31, 45)?;
+/// assert_eq!(through, way_to_vec(survey, -1.5, 31, 45)?);
+/// assert_eq!(through.way, Some(vec![31, 32, 33, 36, 45]));
+///
+/// // One more boat, which can't get through.
+/// let nowhere = convoy_to_vec(survey, &[-2.0, -1.5, 0.0], 31, 45)?;
+/// assert_eq!(nowhere.way, None);
+/// assert_eq!((nowhere.steps[31], nowhere.steps[45]), (Some(0), None));
+/// assert_eq!(convoy_to_vec(survey, &[], 31, 45), Err(Refusal::Convoy));
+/// # Ok::<(), Box<dyn std::error::Error>>(())
+/// ```
+///
+/// # Errors
+///
+/// The first refusal of [`check`], then 21, 8 and 18, that applies.
+pub fn convoy_to_vec(survey: Survey, clearances: &[f32], start: u32, end: u32) -> Result<Passage, Refusal> {
+    passage_into_vectors(survey, |shown, work| convoy(survey, clearances, start, end, shown, work))
+}
+
+/// Makes a call that shows a way, with vectors that have an element for each corner of the survey.
+fn passage_into_vectors(
+    survey: Survey,
+    call: impl FnOnce(&mut [u16], &mut [u16]) -> Result<Option<usize>, Refusal>,
+) -> Result<Passage, Refusal> {
     let records = survey.corners.len() / CORNER_BYTES;
     let (mut shown, mut work) = (vec![0; records], vec![0; records]);
-    let count = way(survey, clearance, start, end, &mut shown, &mut work)?;
+    let count = call(&mut shown, &mut work)?;
     let way = count.map(|count| {
         shown.truncate(count);
         shown
@@ -497,6 +574,16 @@ fn into_vectors<T>(
 fn counted(exported::Counts { number, points, triangles }: exported::Counts) -> Result<Counts, Refused> {
     let counts = Counts { points, triangles };
     passed(number).map(|()| counts).map_err(|refusal| Refused { refusal, counts })
+}
+
+/// What a call that shows a way returned: the count of its corners, or that there is none.
+fn shown(exported::Passage { number, corners }: exported::Passage) -> Result<Option<usize>, Refusal> {
+    assert!(number == 0 || corners == 0, "refusal {number} with {corners} corners");
+    match passed(number) {
+        Ok(()) => Ok(Some(corners as usize)),
+        Err(Refusal::NoWay) => Ok(None),
+        Err(refusal) => Err(refusal),
+    }
 }
 
 /// What a returned number says: 0 that nothing is refused.

@@ -2,8 +2,8 @@
 
 use std::fmt;
 
-/// Why a survey, a clearance, a calendar, a lent slice, an edge, a reference point or a way is refused. Checks run in rising number, but for 12 and 13,
-/// which stand between 8 and 9, 14 and 15, which stand between 6 and 7, and 16 and 17, which stand between 7 and 8; the first that applies is given.
+/// Why a survey, a clearance, a calendar, a lent slice, an edge, a reference point, a way or a convoy is refused. Checks run in rising number, but for 12 and
+/// 13, which stand between 8 and 9, 14 and 15, which stand between 6 and 7, and 16, 17 and 21, which stand between 7 and 8; the first that applies is given.
 ///
 /// So refusals compare by number and not by the order of checks: only [`PointSlice`](Refusal::PointSlice) and
 /// [`TriangleSlice`](Refusal::TriangleSlice) say that there is a drawing, and of the others that drawing gives 12 and 14 to 17 are above both.
@@ -36,7 +36,7 @@ pub enum Refusal {
     CornerSet = 6,
     /// A sounding in force is not finite or beyond ±1,048,576. One that is overruled may hold anything.
     Sounding = 7,
-    /// The clearance is not finite or beyond ±1,048,576. Of a calendar's only that in force is looked at.
+    /// The clearance is not finite or beyond ±1,048,576. Of a calendar's only that in force is looked at, of a convoy's all are.
     Clearance = 8,
     /// The point slice is too short.
     PointSlice = 9,
@@ -62,9 +62,11 @@ pub enum Refusal {
     WayEnd = 18,
     /// The way slice or the work slice is shorter than the corner count, however short the way is.
     WaySlice = 19,
-    /// No way over wet corners leads from the start to the end; the start or the end itself may be dry. [`way`](crate::way) gives `Ok(None)` for it, since
-    /// the work slice is written.
+    /// No way over wet corners leads from the start to the end; the start or the end itself may be dry. [`way`](crate::way) and
+    /// [`convoy`](crate::convoy) give `Ok(None)` for it, since the work slice is written.
     NoWay = 20,
+    /// The convoy has no clearance or more than 16.
+    Convoy = 21,
 }
 
 impl Refusal {
@@ -90,9 +92,10 @@ impl Refusal {
         Refusal::WayEnd,
         Refusal::WaySlice,
         Refusal::NoWay,
+        Refusal::Convoy,
     ];
 
-    /// The refusal's number in the documents: 1 to 20.
+    /// The refusal's number in the documents: 1 to 21.
     pub const fn number(self) -> u32 {
         self as u32
     }
@@ -133,6 +136,7 @@ impl fmt::Display for Refusal {
             Refusal::WayEnd => "the start or the end is no corner",
             Refusal::WaySlice => "the way slice or the work slice is shorter than the corner count",
             Refusal::NoWay => "no way over wet corners leads from the start to the end",
+            Refusal::Convoy => "the convoy has no clearance or more than 16",
         })
     }
 }

@@ -31,7 +31,7 @@ fn the_header_has_the_version_and_the_words() {
     let words: String = Refusal::ALL.iter().map(|refusal| format!("{refusal}\n")).collect();
     assert_eq!(said_in_c(&numbers), format!("{VERSION}\n{words}"));
     let none = "no refusal has this number\n";
-    assert_eq!(said_in_c(&[0, 21, u32::MAX]), format!("{VERSION}\nnothing is refused\n{none}{none}"));
+    assert_eq!(said_in_c(&[0, 22, u32::MAX]), format!("{VERSION}\nnothing is refused\n{none}{none}"));
 }
 
 /// A refusal as the header's enum has it: `CLEARANCE_CELL_TABLE = 1, /* words */`; the last has no comma.
@@ -71,7 +71,7 @@ fn the_header_has_the_ends() {
 #[test]
 fn numbers_and_refusals_are_one_to_one() {
     let numbers = Refusal::ALL.iter().map(|refusal| refusal.number());
-    assert!(numbers.clone().eq(1..=20));
+    assert!(numbers.clone().eq(1..=21));
     assert!(numbers.map(Refusal::from_number).eq(Refusal::ALL.iter().copied().map(Some)));
-    assert_eq!([0, 21, u32::MAX].map(Refusal::from_number), [None; 3]);
+    assert_eq!([0, 22, u32::MAX].map(Refusal::from_number), [None; 3]);
 }
