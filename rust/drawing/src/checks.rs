@@ -1,5 +1,6 @@
 //! Checks 1 to 8: document 01, "Outputs and refusals". Checks 12 to 15: document 02, "Basins cut off by the box", "Water in
-//! the pool" and "Resounding a few corners". Checks 16 and 17 are those of a calendar, 18 to 20 those of a way.
+//! the pool" and "Resounding a few corners". Check 21: "A convoy on one way". Checks 16 and 17 are those of a calendar, 18 to
+//! 20 those of a way.
 
 use crate::amendments::amend;
 use crate::refusal::Refusal;
@@ -12,6 +13,7 @@ const MOST_CELLS: usize = 2_049;
 const CORNER_RECORD: usize = 12;
 const MOST_CORNERS: usize = 4_872;
 const MOST_AMENDMENTS: usize = 1_000;
+const MOST_BOATS: usize = 16;
 const RANGE: f32 = 1_048_576.0;
 
 /// Reads a survey from its tables: checks 1 to 6, 14, 15 and 7.
@@ -37,6 +39,12 @@ pub(crate) fn read(Survey { cells, corners, amendments }: Survey) -> Result<Lawf
 /// Check 8.
 pub(crate) fn clearance(clearance: f32) -> Result<(), Refusal> {
     refuse_unless(in_range(clearance), Refusal::Clearance)
+}
+
+/// Check 21, then check 8 of every clearance of a convoy.
+pub(crate) fn convoy(clearances: &[f32]) -> Result<(), Refusal> {
+    refuse_unless((1..=MOST_BOATS).contains(&clearances.len()), Refusal::Convoy)?;
+    clearances.iter().try_for_each(|&one| clearance(one))
 }
 
 /// Check 12, of a drawing and its volume: no corner on an outer face of the box is wet.

@@ -8,7 +8,7 @@
 //! The modules follow the way of the data: [`check`] reads a survey and amends it; a calendar may say at which clearance it
 //! is drawn; edge-trees are built over its cells; crossing points are numbered on them; face steps and twin steps make the
 //! loops of each leaf; loops are cut into triangles; and the space inside these is reckoned. Over edges of which both ends are
-//! wet the shortest way from corner to corner is shown.
+//! wet the shortest way from corner to corner is shown, for one boat or for all boats of a convoy.
 
 mod amendments;
 mod calendar;
@@ -162,7 +162,20 @@ pub fn way(
     way: &mut [u16],
     work: &mut [u16],
 ) -> Passage {
-    match way::show(survey, clearance, [start, end], way, work) {
+    convoy(survey, &[clearance], start, end, way, work)
+}
+
+/// Shows in lent slices, as [`way`] does, one way that is wet at all of the clearances of a convoy together: document 02, "A
+/// convoy on one way". The refusals are those of [`check`], then 21, 8, 18, 19 and 20; only 20 writes, and the work slice alone.
+pub fn convoy(
+    survey: Survey,
+    clearances: &[f32],
+    start: u32,
+    end: u32,
+    way: &mut [u16],
+    work: &mut [u16],
+) -> Passage {
+    match way::show(survey, clearances, [start, end], way, work) {
         Ok(corners) => Passage { number: 0, corners: corners as u32 },
         Err(refusal) => Passage { number: refusal.number(), corners: 0 },
     }

@@ -1,8 +1,8 @@
 //! The refusals of document 01's table and document 02's requests, by name.
 
-/// Why a survey, a clearance, a calendar, a lent slice, an edge, a reference point or a way is refused. Checks run in rising
-/// number, but for 12 and 13, which stand between 8 and 9, 14 and 15, which stand between 6 and 7, and 16 and 17, which
-/// stand between 7 and 8.
+/// Why a survey, a clearance, a calendar, a lent slice, an edge, a reference point, a way or a convoy is refused. Checks run in
+/// rising number, but for 12 and 13, which stand between 8 and 9, 14 and 15, which stand between 6 and 7, and 16, 17 and 21,
+/// which stand between 7 and 8.
 #[derive(Clone, Copy, Debug, PartialEq, Eq)]
 #[repr(u32)]
 pub(crate) enum Refusal {
@@ -46,6 +46,8 @@ pub(crate) enum Refusal {
     WaySlice = 19,
     /// No way over wet corners leads from the start to the end.
     NoWay = 20,
+    /// The convoy has no clearance or more than 16.
+    Convoy = 21,
 }
 
 impl Refusal {

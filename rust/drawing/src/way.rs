@@ -1,10 +1,11 @@
-//! Ways over wet corners: document 02, "Can she get through?". Nothing here spreads from the start corner by corner: every joint brings down the steps
-//! to its ends, again and again, until nothing changes; and of equally short ways whole ones are compared.
+//! Ways over wet corners: document 02, "Can she get through?" and "A convoy on one way". Nothing here spreads from the start corner by corner: every joint
+//! brings down the steps to its ends, again and again, until nothing changes; and of equally short ways whole ones are compared. One boat is a convoy of
+//! one; no clearance of a convoy is picked out, since each corner is looked at for every boat.
 
 use crate::checks;
 use crate::edges::EdgeTrees;
 use crate::refusal::Refusal;
-use crate::survey::Lawful;
+use crate::survey::{Corner, Lawful};
 use crate::Survey;
 
 /// The result of showing a way in lent slices.
@@ -36,20 +37,20 @@ type Steps = Vec<Option<u16>>;
 /// Every check but 20, then the work slice, and the way slice where there is a way. Gives back how many corners it has.
 pub(crate) fn show(
     survey: Survey,
-    clearance: f32,
+    clearances: &[f32],
     ends: [u32; 2],
     way: &mut [u16],
     work: &mut [u16],
 ) -> Result<usize, Refusal> {
     let survey = checks::read(survey)?;
-    checks::clearance(clearance)?;
+    checks::convoy(clearances)?;
     let corners = survey.corners.len();
     let [start, end] = ends.map(|end| end as usize);
     checks::refuse_unless(start < corners && end < corners, Refusal::WayEnd)?;
     checks::refuse_unless(way.len() >= corners && work.len() >= corners, Refusal::WaySlice)?;
-    let joints = joints(&survey, clearance);
+    let joints = joints(&survey, clearances);
     let mut steps = vec![None; corners];
-    steps[start] = survey.corners[start].is_wet(clearance).then_some(0);
+    steps[start] = is_wet_at_all(survey.corners[start], clearances).then_some(0);
     while joints.iter().filter(|joint| brings_down(&mut steps, joint)).count() > 0 {}
     let one_more = |steps: &Option<u16>| steps.map_or(0, |steps| steps + 1);
     work.iter_mut().zip(&steps).for_each(|(element, steps)| *element = one_more(steps));
@@ -58,11 +59,16 @@ pub(crate) fn show(
     Ok(least.len())
 }
 
-/// Both directions of every undivided edge whose ends are wet.
-fn joints(survey: &Lawful, clearance: f32) -> Vec<Step> {
+/// Whether a corner is wet at all of the clearances together.
+fn is_wet_at_all(corner: Corner, clearances: &[f32]) -> bool {
+    clearances.iter().all(|&clearance| corner.is_wet(clearance))
+}
+
+/// Both directions of every undivided edge whose ends are wet for every boat.
+fn joints(survey: &Lawful, clearances: &[f32]) -> Vec<Step> {
     let trees = EdgeTrees::over(survey);
     let undivided = (0..trees.len()).map(|edge| trees[edge]).filter(|edge| edge.halves.is_none());
-    let is_wet = |&corner: &usize| survey.corners[corner].is_wet(clearance);
+    let is_wet = |&corner: &usize| is_wet_at_all(survey.corners[corner], clearances);
     let wet = undivided.map(|edge| edge.ends).filter(|ends| ends.iter().all(is_wet));
     wet.flat_map(|[lower, upper]| [[lower, upper], [upper, lower]]).collect()
 }
