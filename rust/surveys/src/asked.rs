@@ -1,4 +1,5 @@
-//! Random questions about ways, and random surveys whose ways are long: document 02, "Can she get through?".
+//! Random questions about ways, and random surveys whose ways are long: document 02, "Can she get through?". Random convoys are in
+//! [`boats`](crate::boats).
 
 use std::iter::repeat_with;
 use std::ops::Range;
@@ -6,10 +7,9 @@ use std::ops::Range;
 use crate::amendments::resounded;
 use crate::generate::{named, small_survey};
 use crate::joints::{Due, Joints};
-use crate::plain::in_force;
+use crate::plain::soundings;
 use crate::random::Random;
 use crate::refusals::NO_WAY;
-use crate::survey::Record;
 use crate::tally::Ways;
 use crate::trees::octree;
 use crate::Survey;
@@ -26,15 +26,16 @@ pub struct Asked {
 /// So many questions about a survey, lawful or not. Most are about two wet corners, if it has any, with slices that are long enough.
 pub fn questions(seed: u64, survey: &Survey, count: usize) -> Vec<Asked> {
     let random = &mut Random::new(seed);
-    let corners = survey.corners.len() / Record::BYTES;
-    let wet: Vec<u32> = (0..)
-        .zip(in_force(survey))
-        .filter(|(_, held)| held.record.sounding > survey.clearance)
-        .map(|(number, _)| number)
-        .collect();
-    repeat_with(|| Asked { ends: ends(random, corners, &wet), rooms: rooms(random, corners) })
-        .take(count)
-        .collect()
+    let soundings = soundings(survey);
+    repeat_with(|| question(random, &soundings, &[survey.clearance])).take(count).collect()
+}
+
+/// A question about corners with these soundings in force, of which those above every clearance are wet.
+pub(crate) fn question(random: &mut Random, soundings: &[f32], clearances: &[f32]) -> Asked {
+    let is_wet = |sounding: f32| clearances.iter().all(|&clearance| sounding > clearance);
+    let numbered = (0..).zip(soundings).filter(|&(_, &sounding)| is_wet(sounding));
+    let wet: Vec<u32> = numbered.map(|(number, _)| number).collect();
+    Asked { ends: ends(random, soundings.len(), &wet), rooms: rooms(random, soundings.len()) }
 }
 
 /// Two wet corners, any two, one corner twice, or a number that is no corner's on one side or on both.
@@ -83,12 +84,24 @@ const FEW_WET: usize = 11;
 /// Hands what is due of every two wet corners, and of a dry one, to a comparison, for each of these seeds that makes a survey with few wet corners. Stops
 /// if too few ways of any kind were met.
 pub fn compare_with_all_ways(seeds: Range<u64>, compare: impl Fn(&Survey, &Due, &str)) {
+    let one_boat = |_, survey: &Survey| vec![survey.clearance];
+    compare_convoys_with_all_ways(seeds, one_boat, |survey, _, due, what| compare(survey, due, what));
+}
+
+/// The same for a lawful convoy of each survey, which is made from the seed. A wet corner is one that is wet for every boat.
+pub fn compare_convoys_with_all_ways(
+    seeds: Range<u64>,
+    convoy: impl Fn(u64, &Survey) -> Vec<f32>,
+    compare: impl Fn(&Survey, &[f32], &Due, &str),
+) {
     let mut seen = Ways::default();
-    for (what, survey) in named("small survey", seeds, |seed| small_survey(seed, (seed % 5) as usize)) {
-        let joints = Joints::read(&survey);
+    let made = |seed| small_survey(seed, (seed % 5) as usize);
+    for (seed, (what, survey)) in seeds.clone().zip(named("small survey", seeds, made)) {
+        let clearances = convoy(seed, &survey);
+        let joints = Joints::read(&survey).for_convoy(&survey, &clearances);
         let all_due = if joints.wet_count() > FEW_WET { Vec::new() } else { joints.due() };
         for due in all_due {
-            compare(&survey, &due, &what);
+            compare(&survey, &clearances, &due, &what);
             let number = if due.way.is_some() { 0 } else { NO_WAY };
             seen.add(&joints, number, &due.way.unwrap_or_default(), &due.work);
         }
@@ -143,6 +156,7 @@ mod tests {
     use super::*;
     use crate::generate;
     use crate::refusals::{of_way, WAY_END, WAY_SLICE};
+    use crate::survey::Record;
 
     fn asked() -> impl Iterator<Item = (Survey, Asked)> {
         let surveys = (0..400).map(|seed| (seed, generate::small_mixed(seed, 8)));

@@ -1,9 +1,9 @@
-//! Which corners are joined, and all ways over them: document 02, "Can she get through?", in its own words, for lawful surveys. Corners go by record
-//! number. Nothing here is fast.
+//! Which corners are joined, and all ways over them: document 02, "Can she get through?" and "A convoy on one way", in its own words, for lawful surveys.
+//! Corners go by record number. Nothing here is fast.
 
 use std::collections::{BTreeSet, HashMap};
 
-use crate::plain::{records, Plain};
+use crate::plain::{records, soundings, Plain};
 use crate::refusals::NO_WAY;
 use crate::Survey;
 
@@ -50,6 +50,13 @@ impl Joints {
             joined[usize::from(high)].push(low);
         }
         Joints { wet: places.iter().map(|&place| plain.is_wet(place)).collect(), joined }
+    }
+
+    /// The same corners for a convoy: each is wet if it is wet at all of the clearances together.
+    pub fn for_convoy(&self, survey: &Survey, clearances: &[f32]) -> Joints {
+        let is_wet_for_all = |sounding: f32| clearances.iter().all(|&clearance| sounding > clearance);
+        let wet = soundings(survey).into_iter().map(is_wet_for_all).collect();
+        Joints { wet, joined: self.joined.clone() }
     }
 
     /// How many corners are wet.

@@ -9,6 +9,8 @@
 //! - [`seasons`]: calendars asked at a minute of which the same can be said by hand.
 //! - [`ways`]: surveys of which the way from a corner to another can be said by hand, and the order of its refusals.
 //! - [`asked`]: random questions about ways, and random surveys whose ways are long.
+//! - [`convoys`]: convoys of which the way can be said by hand, and the order of their refusals.
+//! - [`boats`]: random convoys, asked about ways.
 //! - [`sized`]: surveys of a given number of splits, a kind for each shape that a drawing may be slow on.
 //! - [`damage`]: random damaged surveys, each with the refusal it must meet.
 //! - [`lent`]: what stands in lent slices before a drawing, to see what it touches.
@@ -21,8 +23,10 @@
 
 pub mod amendments;
 pub mod asked;
+pub mod boats;
 pub mod calendars;
 pub mod closing;
+pub mod convoys;
 pub mod damage;
 pub mod document;
 mod expected;

@@ -226,6 +226,11 @@ pub fn in_force(survey: &Survey) -> Vec<Held> {
     records(&survey.corners).map(holding).collect()
 }
 
+/// The sounding in force at each corner.
+pub fn soundings(survey: &Survey) -> Vec<f32> {
+    in_force(survey).iter().map(|held| held.record.sounding).collect()
+}
+
 /// Of the records for one corner, the corner table's and then the amendments in their order, that which holds: of those of
 /// the highest day the last.
 fn strongest(candidates: &[Held]) -> Held {

@@ -1,6 +1,6 @@
-//! Checks 1 to 8 in the words of document 01, "Outputs and refusals"; checks 12 to 20 in those of document 02, "Basins cut
-//! off by the box", "Water in the pool", "Resounding a few corners", "Clearance by calendar" and "Can she get through?".
-//! Nothing here is fast.
+//! Checks 1 to 8 in the words of document 01, "Outputs and refusals"; checks 12 to 21 in those of document 02, "Basins cut
+//! off by the box", "Water in the pool", "Resounding a few corners", "Clearance by calendar", "Can she get through?" and "A
+//! convoy on one way". Nothing here is fast.
 
 use std::collections::BTreeSet;
 
@@ -31,7 +31,7 @@ pub const CALENDAR: u32 = 16;
 /// The refusal for a minute in no record of the calendar, given by a drawing by calendar alone.
 pub const MINUTE: u32 = 17;
 
-/// The refusal for a start or an end that is no corner, given by a way alone, as are the next two.
+/// The refusal for a start or an end that is no corner, given by a way alone, of one boat or of a convoy, as are the next two.
 pub const WAY_END: u32 = 18;
 
 /// The refusal for a way slice or a work slice that is shorter than the corner count.
@@ -39,6 +39,9 @@ pub const WAY_SLICE: u32 = 19;
 
 /// The refusal where there is no way.
 pub const NO_WAY: u32 = 20;
+
+/// The refusal for a convoy of none or more than 16, which no other call gives.
+pub const CONVOY: u32 = 21;
 
 /// The first refusal of a drawing that the lent slices have no part in: those of [`ORDER`], then 12; 0 if there is none.
 pub fn of_drawing(survey: &Survey) -> u32 {
@@ -69,14 +72,30 @@ pub fn of_drawing_by_calendar(survey: &Survey, calendar: &[u8], minute: u32) -> 
 /// The refusal of a way: those of [`ORDER`], then 18, 19 and 20; 0 if there is none. The rooms are how many elements the way slice and the work slice
 /// have.
 pub fn of_way(survey: &Survey, ends: [u32; 2], rooms: [usize; 2]) -> u32 {
+    of_convoy(survey, &[survey.clearance], ends, rooms)
+}
+
+/// The refusal of a convoy: those of [`of_boats`], then 18, 19 and 20; 0 if there is none.
+pub fn of_convoy(survey: &Survey, clearances: &[f32], ends: [u32; 2], rooms: [usize; 2]) -> u32 {
     let [start, end] = ends.map(|end| end as u16);
-    match of_question(first(survey), records(&survey.corners).count(), ends, rooms) {
-        0 if !Joints::read(survey).reach(start).contains(&end) => NO_WAY,
+    let is_reached = || Joints::read(survey).for_convoy(survey, clearances).reach(start).contains(&end);
+    match of_question(of_boats(survey, clearances), records(&survey.corners).count(), ends, rooms) {
+        0 if !is_reached() => NO_WAY,
         number => number,
     }
 }
 
-/// The same without 20, of a survey with this first refusal and so many corners.
+/// The first refusal of a survey and the boats of a convoy: those of the survey by itself, then 21, and 8 if any clearance is out of range; 0 if there is
+/// none. The survey's own clearance is not looked at.
+pub fn of_boats(survey: &Survey, clearances: &[f32]) -> u32 {
+    match by_itself(first(survey)) {
+        0 if clearances.is_empty() || clearances.len() > 16 => CONVOY,
+        0 if clearances.iter().any(|&clearance| out_of_range(clearance)) => 8,
+        number => number,
+    }
+}
+
+/// The refusal of a way without 20, of a survey and boats with this first refusal and so many corners.
 pub fn of_question(first: u32, corners: usize, ends: [u32; 2], rooms: [usize; 2]) -> u32 {
     match first {
         0 if ends.iter().any(|&end| end as usize >= corners) => WAY_END,

@@ -1,5 +1,5 @@
 //! How many surveys of a comparison were drawn, and how many of these are amended: one in which nearly all are refused
-//! shows little. And how often calendars of each kind, and ways of each kind, were met.
+//! shows little. And how often calendars of each kind, and ways and convoys of each kind, were met.
 
 use std::collections::BTreeMap;
 use std::fmt;
@@ -7,7 +7,7 @@ use std::fmt;
 use crate::amendments::some_hold;
 use crate::calendars::Kind;
 use crate::joints::Joints;
-use crate::refusals::{NO_WAY, WAY_END, WAY_SLICE};
+use crate::refusals::{CONVOY, NO_WAY, WAY_END, WAY_SLICE};
 use crate::Survey;
 
 /// So few surveys need not show every outcome.
@@ -87,7 +87,7 @@ impl Kinds {
 /// A way of more corners than this is long.
 const LONG: usize = 20;
 
-/// How often ways, and refusals of ways, were met.
+/// How often ways, refusals of ways, and convoys were met.
 #[derive(Clone, Debug, Default)]
 pub struct Ways(BTreeMap<&'static str, usize>);
 
@@ -95,7 +95,7 @@ impl Ways {
     /// Takes down what came of a question: the number returned, and what then stands in the front of the slices.
     pub fn add(&mut self, joints: &Joints, number: u32, way: &[u16], work: &[u16]) {
         let is_out_of_reach = || work[..joints.wet.len()].iter().all(|&steps| steps == 0);
-        let met = [
+        self.note(&[
             ("questions", true),
             ("shown", number == 0),
             ("of one corner", number == 0 && way.len() == 1),
@@ -105,8 +105,13 @@ impl Ways {
             ("from a dry start", number == NO_WAY && is_out_of_reach()),
             ("no corner", number == WAY_END),
             ("short slices", number == WAY_SLICE),
-        ];
-        for (what, is_met) in met {
+            ("no convoy", number == CONVOY),
+        ]);
+    }
+
+    /// Takes down what else the question has shown: how each kind is called, and whether it was met.
+    pub fn note(&mut self, met: &[(&'static str, bool)]) {
+        for &(what, is_met) in met {
             *self.0.entry(what).or_default() += usize::from(is_met);
         }
     }

@@ -28,7 +28,7 @@ fn leaf(wet: &str) -> Survey {
 }
 
 /// Where a corner of one leaf is.
-fn place(corner: u16) -> [u16; 3] {
+pub(crate) fn place(corner: u16) -> [u16; 3] {
     [0, 1, 2].map(|axis| BOX_SIZE * (corner >> axis & 1))
 }
 
@@ -40,11 +40,16 @@ fn resounded(wet: &str, amendments: &[(u16, f32, u16)]) -> Survey {
 
 /// A survey and its answer: the start and the end, the way (empty if there is none), and the work of the first corners; the others are out of reach.
 fn known_as(name: &'static str, survey: Survey, ends: &str, way: &str, work: &str) -> Known {
+    let due = due(survey.corners.len() / Record::BYTES, ends, way, work);
+    Known { name, survey, due }
+}
+
+/// What is due of a survey of so many corners, as [`known_as`] has it.
+pub(crate) fn due(corners: usize, ends: &str, way: &str, work: &str) -> Due {
     let way = Some(digits(way)).filter(|way| !way.is_empty());
     let mut work = digits(work);
-    work.resize(survey.corners.len() / Record::BYTES, 0);
-    let ends = digits(ends).try_into().expect("a start and an end");
-    Known { name, survey, due: Due { ends, way, work } }
+    work.resize(corners, 0);
+    Due { ends: digits(ends).try_into().expect("a start and an end"), way, work }
 }
 
 /// All corners of one leaf.
