@@ -24,7 +24,7 @@ pub struct Convoy {
 
 /// So many questions about a survey, lawful or not. Most are of lawful convoys, about two corners that are wet for every boat, if there are any, with slices
 /// that are long enough.
-pub fn convoys(seed: u64, survey: &Survey, count: usize) -> Vec<Convoy> {
+pub fn convoy_questions(seed: u64, survey: &Survey, count: usize) -> Vec<Convoy> {
     asked_by(seed, survey, count, |random, levels| match random.below(16) {
         0 => Vec::new(),
         1 => too_many(random, levels),
@@ -35,7 +35,7 @@ pub fn convoys(seed: u64, survey: &Survey, count: usize) -> Vec<Convoy> {
 }
 
 /// So many questions of lawful convoys in which the survey's own clearance, lawful or not, has a place.
-pub fn convoys_with_own(seed: u64, survey: &Survey, count: usize) -> Vec<Convoy> {
+pub fn convoy_questions_with_own(seed: u64, survey: &Survey, count: usize) -> Vec<Convoy> {
     asked_by(seed, survey, count, |random, levels| replacing_one(random, levels, survey.clearance))
 }
 
@@ -160,7 +160,7 @@ mod tests {
     fn asked() -> impl Iterator<Item = (Survey, Convoy)> {
         let surveys = (0..600).map(|seed| (seed, generate::small_mixed(seed, 8)));
         surveys.flat_map(|(seed, survey)| {
-            convoys(seed, &survey, 4).into_iter().map(move |convoy| (survey.clone(), convoy))
+            convoy_questions(seed, &survey, 4).into_iter().map(move |convoy| (survey.clone(), convoy))
         })
     }
 
