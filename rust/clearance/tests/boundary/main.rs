@@ -2,6 +2,7 @@
 //! inaccessible page, on lawful and damaged surveys; and no more stack than the header says. Each failure names the seed that makes the survey again.
 //! `CLEARANCE_BOUNDARY` sets how many surveys of each kind.
 
+mod convoys;
 mod guarded;
 #[path = "../number/mod.rs"]
 mod number;
@@ -32,11 +33,11 @@ enum Lender {
 }
 
 impl Lender {
-    /// A table, for reading only.
-    fn table(self, bytes: &[u8]) -> Box<dyn Deref<Target = [u8]>> {
+    /// A table or other elements, for reading only.
+    fn table<T: Copy + 'static>(self, elements: &[T]) -> Box<dyn Deref<Target = [T]>> {
         match self {
-            Lender::Heap => Box::new(Box::<[u8]>::from(bytes)),
-            Lender::Page(side) => Box::new(Guarded::new(bytes, side).sealed()),
+            Lender::Heap => Box::new(Box::<[T]>::from(elements)),
+            Lender::Page(side) => Box::new(Guarded::new(elements, side).sealed()),
         }
     }
 
@@ -218,8 +219,10 @@ struct Seen {
     points: usize,
     /// Enquiries that met a crossing edge.
     crossings: usize,
-    /// Ways that were shown.
+    /// Ways that were shown, to one boat.
     ways: usize,
+    /// Ways that were shown to convoys.
+    convoys: usize,
     /// The kinds of calendars that it was drawn by.
     kinds: [Kind; 2],
 }
@@ -236,7 +239,7 @@ fn look(survey: &Survey, lender: Lender, seed: u64, what: &str) -> Seen {
     let refusal = refusals::of_drawing(survey);
     let check = number(clearance::check(lent.tables()));
     assert_eq!(check, refusals::by_itself(refusal), "{what}: check");
-    let ways = lent.assert_ways(survey, refusal, seed);
+    let (ways, convoys) = (lent.assert_ways(survey, refusal, seed), lent.assert_convoys(survey, seed));
     let points = match refusal {
         0 => lent.assert_drawn(),
         OPEN_AT_BOX => {
@@ -246,15 +249,16 @@ fn look(survey: &Survey, lender: Lender, seed: u64, what: &str) -> Seen {
         }
         _ => {
             lent.assert_refused(refusal);
-            return Seen { refusal, points: 0, crossings: 0, ways, kinds };
+            return Seen { refusal, points: 0, crossings: 0, ways, convoys, kinds };
         }
     };
-    Seen { refusal, points: points.len() / 3, crossings: lent.assert_answered(&points), ways, kinds }
+    Seen { refusal, points: points.len() / 3, crossings: lent.assert_answered(&points), ways, convoys, kinds }
 }
 
-/// Lawful surveys: by far most are drawn, the enquiry meets crossing edges, ways are shown, and calendars are of every kind.
+/// Lawful surveys: by far most are drawn, the enquiry meets crossing edges, ways are shown to boats and convoys, and calendars are of every kind.
 fn assert_lawful_within(lender: Lender, surveys: u64) {
-    let (mut tally, mut kinds, mut crossings, mut ways) = (Tally::default(), Kinds::default(), 0, 0);
+    let (mut tally, mut kinds) = (Tally::default(), Kinds::default());
+    let (mut crossings, mut ways, mut convoys) = (0, 0, 0);
     for (seed, (what, survey)) in (0..).zip(generate::named("mixed", 0..surveys, generate::mixed)) {
         let seen = look(&survey, lender, seed, &what);
         match seen.refusal {
@@ -264,12 +268,14 @@ fn assert_lawful_within(lender: Lender, surveys: u64) {
         }
         crossings += seen.crossings;
         ways += seen.ways;
+        convoys += seen.convoys;
         seen.kinds.into_iter().for_each(|kind| kinds.add(kind));
     }
     tally.assert_most_drawn(&format!("{lender:?}"));
     kinds.assert_all_met(surveys as usize / 50, &format!("{lender:?}"));
     assert!(crossings as u64 >= surveys / 10, "{crossings} crossing edges");
     assert!(ways as u64 >= surveys / 4, "{ways} ways");
+    assert!(convoys as u64 >= surveys / 4, "{convoys} ways of convoys");
 }
 
 /// Examples and damaged surveys: they meet every refusal that the slices have no part in.

@@ -38,7 +38,7 @@ fn largest() -> Vec<Survey> {
 }
 
 /// Makes every call: the check, enquiries about edges of cells from all over the table, the drawing, by hand and by calendar, the volume, and a way from
-/// the first corner to the last, which are dry, at a clearance at which all are wet too.
+/// the first corner to the last, which are dry, at a clearance at which all are wet too, for one boat and for 16.
 fn make_calls(survey: &Survey) {
     let (tables, clearance) = (proved(survey), survey.clearance);
     clearance::check(tables).expect("checked");
@@ -54,7 +54,9 @@ fn make_calls(survey: &Survey) {
     let last = (survey.corners.len() / Record::BYTES) as u32 - 1;
     assert_eq!(clearance::way_to_vec(tables, clearance, 0, last).expect("answered").way, None);
     let through = clearance::way_to_vec(tables, -1_048_576.0, 0, last).expect("answered");
-    assert!(through.way.is_some_and(|way| way.len() > 6) && !through.steps.contains(&None));
+    assert!(through.way.as_ref().is_some_and(|way| way.len() > 6) && !through.steps.contains(&None));
+    assert_eq!(clearance::convoy_to_vec(tables, &[-1_048_576.0; 16], 0, last), Ok(through));
+    assert_eq!(clearance::convoy_to_vec(tables, &[clearance; 16], 0, last).expect("answered").way, None);
 }
 
 #[test]

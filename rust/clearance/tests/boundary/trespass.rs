@@ -32,6 +32,17 @@ unsafe fn way_with_more(tables: clearance::Survey, elements: [usize; 2]) -> u32 
     number(clearance::way(tables, -2.0, 0, 45, way, work))
 }
 
+/// The same way for a convoy, with so many clearances that are said to be 16.
+///
+/// # Safety
+///
+/// Unsound on purpose, if there are fewer than 16.
+unsafe fn convoy_with_more(tables: clearance::Survey, count: usize) -> u32 {
+    let lent = Guarded::new(&vec![-2.0; count], Side::After).sealed();
+    let clearances = unsafe { std::slice::from_raw_parts(lent.first(), 16) };
+    number(clearance::convoy_to_vec(tables, clearances, 0, 45))
+}
+
 fn commit(trespass: &str) {
     if trespass == "use more stack" {
         return stack::use_more();
@@ -64,6 +75,7 @@ fn commit(trespass: &str) {
             }
             "lend more of a way slice than there is" => way_with_more(tables, [1, 46]),
             "lend more of a work slice than there is" => way_with_more(tables, [46, 45]),
+            "lend more clearances than there are" => convoy_with_more(tables, 15),
             _ => panic!("no such trespass"),
         };
     }
@@ -92,6 +104,7 @@ fn leaving_what_was_lent_ends_the_process() {
         "lend more of a calendar than there is",
         "lend more of a way slice than there is",
         "lend more of a work slice than there is",
+        "lend more clearances than there are",
     ];
     for trespass in trespasses {
         assert_eq!(after_committing(trespass).signal(), Some(SIGSEGV), "{trespass}");
