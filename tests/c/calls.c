@@ -252,7 +252,7 @@ static void version_and_words(void)
     EXPECT(strcmp(clearance_words(0), "nothing is refused") == 0);
     EXPECT(strcmp(clearance_words(CLEARANCE_CONVOY + 1), "no refusal has this number") == 0);
     EXPECT(strcmp(clearance_words(UINT32_MAX), "no refusal has this number") == 0);
-    for (uint32_t number = 1; number <= CLEARANCE_NO_WAY + 1; number++) {
+    for (uint32_t number = 1; number <= CLEARANCE_CONVOY + 1; number++) {
         for (uint32_t before = 0; before < number; before++) {
             EXPECT(strcmp(clearance_words(number), clearance_words(before)) != 0);
         }
