@@ -20,12 +20,22 @@ pub enum Call {
     Calendar,
     /// A way across the whole survey, at a clearance at which every corner is wet.
     Way,
+    /// The same way for a convoy of 16 clearances.
+    Convoy,
 }
 
 impl Call {
     /// All calls, in the order in which a row has them.
-    pub const ALL: [Call; 7] =
-        [Call::Check, Call::Enquire, Call::Draw, Call::Volume, Call::Amended, Call::Calendar, Call::Way];
+    pub const ALL: [Call; 8] = [
+        Call::Check,
+        Call::Enquire,
+        Call::Draw,
+        Call::Volume,
+        Call::Amended,
+        Call::Calendar,
+        Call::Way,
+        Call::Convoy,
+    ];
 
     /// The calls that are timed against the drawing too: those that draw and do something more, and the way.
     pub const BY_DRAW: [Call; 4] = [Call::Volume, Call::Amended, Call::Calendar, Call::Way];
@@ -39,14 +49,14 @@ pub fn time(call: Call, subject: &mut Subject, rounds: usize) -> Timing {
     interleaved(rounds, proved, rust)
 }
 
-/// A proved call by the proved drawing alone, timed in turns.
-pub fn by_draw(call: Call, subject: &mut Subject, rounds: usize) -> f64 {
+/// A proved call by another proved one, timed in turns.
+pub fn proved_by_proved(calls: [Call; 2], subject: &mut Subject, rounds: usize) -> f64 {
     let shared = RefCell::new(subject);
-    let [more, draw] = [call, Call::Draw].map(|call| {
+    let [call, other] = calls.map(|call| {
         let shared = &shared;
         move || make::<Proved>(call, &mut shared.borrow_mut())
     });
-    ratio(&in_turns(rounds, more, draw))
+    ratio(&in_turns(rounds, call, other))
 }
 
 /// Makes a call once. Enquiries are about one edge after another.
@@ -64,6 +74,7 @@ pub fn make<M: Maker>(call: Call, subject: &mut Subject) {
         Call::Amended => _ = black_box(M::draw(amended, point_slice, triangle_slice)),
         Call::Calendar => _ = black_box(M::draw_by_calendar(survey, asked, point_slice, triangle_slice)),
         Call::Way => _ = black_box(M::way(survey, way_slice, work_slice)),
+        Call::Convoy => _ = black_box(M::convoy(survey, way_slice, work_slice)),
     }
 }
 
@@ -90,15 +101,18 @@ pub fn compare(subject: &Subject) {
     compare_ways(subject);
 }
 
-/// Stops if the two makers differ in the way, or there is none: then it would not lead across the survey.
+/// Stops if the two makers differ in the way, of one boat or of the convoy, or there is none, or a corner is out of reach: then it would not lead across
+/// the survey.
 fn compare_ways(subject: &Subject) {
     let Subject { survey, way_slice, work_slice, .. } = subject;
     let lengths = [way_slice, work_slice].map(Vec::len);
     let shown = lent(lengths, |way, work| Rust::way(survey, way, work));
     assert_eq!(lent(lengths, |way, work| Proved::way(survey, way, work)), shown);
-    let ([number, corners], ..) = shown;
+    assert_eq!(lent(lengths, |way, work| Proved::convoy(survey, way, work)), shown);
+    assert_eq!(lent(lengths, |way, work| Rust::convoy(survey, way, work)), shown);
+    let ([number, corners], _, work) = shown;
     assert_eq!(number, 0);
-    assert!(corners > 1, "{corners}");
+    assert!(corners > 1 && !work.contains(&0), "{corners}");
 }
 
 /// What a call that draws returns and leaves in the slices.

@@ -24,7 +24,7 @@ mod tests {
     fn row(splits: usize, way: f64) -> Row {
         let times = Call::ALL.map(|_| Timing { proved: 1.0, rust: 1.0, ratio: 1.0 });
         let by_draw = Call::BY_DRAW.map(|call| if call == Call::Way { way } else { 9.0 });
-        Row { kind: Kind::Ball, splits, leaves: 1, points: 0, triangles: 0, times, by_draw }
+        Row { kind: Kind::Ball, splits, leaves: 1, points: 0, triangles: 0, times, by_draw, by_way: 9.0 }
     }
 
     #[test]

@@ -1,8 +1,8 @@
 //! Times the proved calls against the Rust drawing, on surveys of several kinds and sizes, and prints two tables:
 //! the time of each call, with the proved volume, the proved drawing with 1,000 amendments, that by a calendar of 1,000
-//! records and the proved way by the proved drawing alone, and how the time of a leaf grows with the survey; then the
-//! highest of these ratios, and how the proved drawing of each kind grows. The exit status is 1 if one grows too fast, or
-//! a way across a large survey takes too much of the drawing's time.
+//! records and the proved way by the proved drawing alone, and the proved way of a convoy by that of one boat, and how the
+//! time of a leaf grows with the survey; then the highest of these ratios, and how the proved drawing of each kind grows.
+//! The exit status is 1 if one grows too fast, or a way across a large survey takes too much of the drawing's time.
 //!
 //!     cargo run --release -p bench [ROUNDS]
 //!
@@ -68,7 +68,9 @@ fn row(kind: Kind, splits: usize, rounds: usize) -> Row {
     let mut subject = Subject::new(surveys::sized::survey(kind, splits, SEED));
     calls::compare(&subject);
     let times = Call::ALL.map(|call| calls::time(call, &mut subject, rounds));
-    let by_draw = Call::BY_DRAW.map(|call| calls::by_draw(call, &mut subject, rounds));
+    let mut by = |call, other| calls::proved_by_proved([call, other], &mut subject, rounds);
+    let by_draw = Call::BY_DRAW.map(|call| by(call, Call::Draw));
+    let by_way = by(Call::Convoy, Call::Way);
     Row {
         kind,
         splits,
@@ -77,5 +79,6 @@ fn row(kind: Kind, splits: usize, rounds: usize) -> Row {
         triangles: subject.triangles(),
         times,
         by_draw,
+        by_way,
     }
 }

@@ -9,8 +9,23 @@ use crate::subject::Enquiry;
 /// The point from which volumes are reckoned.
 const REFERENCE: [u32; 3] = [512; 3];
 
-/// The lowest clearance that is lawful. Every corner that is sounded above it is wet, so that a way leads anywhere.
+/// The lowest clearance that is lawful.
 const LOWEST: f32 = -1_048_576.0;
+
+/// The clearances of as many boats as a convoy may have, rising from the lowest that is lawful. Every corner is sounded above all of them, so that a way
+/// leads anywhere.
+const BOATS: [f32; 16] = {
+    let mut boats = [LOWEST; 16];
+    let mut boat = 1;
+    while boat < boats.len() {
+        boats[boat] = boats[boat - 1] + 1.0;
+        boat += 1;
+    }
+    boats
+};
+
+/// The clearance of one boat: the greatest of the convoy, so that both are shown the same way.
+const GREATEST: f32 = BOATS[BOATS.len() - 1];
 
 /// What drawing returns: the number, and the counts of points and triangles.
 pub type Counts = [u32; 3];
@@ -33,8 +48,10 @@ pub trait Maker {
     fn draw_by_calendar(survey: &Survey, asked: &Asked, points: &mut [f32], triangles: &mut [u32]) -> Counts;
     /// Draws into lent slices, and reckons six times the volume.
     fn volume(survey: &Survey, points: &mut [f32], triangles: &mut [u32]) -> (Counts, i128);
-    /// Shows in lent slices, which have an element for each corner, the way from the first corner to the last at the lowest clearance.
+    /// Shows in lent slices, which have an element for each corner, the way from the first corner to the last for one boat.
     fn way(survey: &Survey, way: &mut [u16], work: &mut [u16]) -> Shown;
+    /// Shows the same for a convoy of which she has the greatest clearance.
+    fn convoy(survey: &Survey, way: &mut [u16], work: &mut [u16]) -> Shown;
 }
 
 /// The proved library.
@@ -72,11 +89,19 @@ impl Maker for Proved {
     }
 
     fn way(survey: &Survey, way: &mut [u16], work: &mut [u16]) -> Shown {
-        match clearance::way(proved(survey), LOWEST, 0, last_corner(work), way, work) {
-            Ok(Some(corners)) => [0, corners as u32],
-            Ok(None) => [Refusal::NoWay.number(), 0],
-            Err(refusal) => [refusal.number(), 0],
-        }
+        shown(clearance::way(proved(survey), GREATEST, 0, last_corner(work), way, work))
+    }
+
+    fn convoy(survey: &Survey, way: &mut [u16], work: &mut [u16]) -> Shown {
+        shown(clearance::convoy(proved(survey), &BOATS, 0, last_corner(work), way, work))
+    }
+}
+
+fn shown(outcome: Result<Option<usize>, Refusal>) -> Shown {
+    match outcome {
+        Ok(Some(corners)) => [0, corners as u32],
+        Ok(None) => [Refusal::NoWay.number(), 0],
+        Err(refusal) => [refusal.number(), 0],
     }
 }
 
@@ -130,7 +155,12 @@ impl Maker for Rust {
     }
 
     fn way(survey: &Survey, way: &mut [u16], work: &mut [u16]) -> Shown {
-        let passage = drawing::way(rust(survey), LOWEST, 0, last_corner(work), way, work);
+        let passage = drawing::way(rust(survey), GREATEST, 0, last_corner(work), way, work);
+        [passage.number, passage.corners]
+    }
+
+    fn convoy(survey: &Survey, way: &mut [u16], work: &mut [u16]) -> Shown {
+        let passage = drawing::convoy(rust(survey), &BOATS, 0, last_corner(work), way, work);
         [passage.number, passage.corners]
     }
 }

@@ -18,6 +18,8 @@ pub struct Row {
     pub times: [Timing; Call::ALL.len()],
     /// The proved calls of [`Call::BY_DRAW`], by the proved drawing alone.
     pub by_draw: [f64; Call::BY_DRAW.len()],
+    /// The proved way of a convoy, by that of one boat.
+    pub by_way: f64,
 }
 
 impl Row {
@@ -28,15 +30,16 @@ impl Row {
     }
 }
 
-/// The time of each call in microseconds, proved and Rust, and their ratio; then those of proved calls to the proved drawing.
+/// The time of each call in microseconds, proved and Rust, and their ratio; then those of proved calls to the proved drawing, and of the proved convoy to the
+/// proved way.
 pub fn print_times(rows: &[Row]) {
     println!(
-        "time of a call in microseconds: proved, Rust, and proved / Rust; last, proved calls / proved draw\n"
+        "time of a call in microseconds: proved, Rust, and proved / Rust; last, proved calls / proved draw or way\n"
     );
     print!("{:9} {:>6} {:>6} {:>6} {:>9}", "kind", "splits", "leaves", "points", "triangles");
     Call::ALL.into_iter().for_each(|call| print!(" | {:>26}", call_name(call)));
     Call::BY_DRAW.into_iter().for_each(|call| print!(" | {:>8} / draw", call_name(call)));
-    println!();
+    println!(" | {:>8} / way", call_name(Call::Convoy));
     for row in rows {
         print!("{:9} {:6} {:6}", kind_name(row.kind), row.splits, row.leaves);
         print!(" {:6} {:9}", row.points, row.triangles);
@@ -44,7 +47,7 @@ pub fn print_times(rows: &[Row]) {
             print!(" | {:9.2} {:9.2} {ratio:6.2}", proved / 1e3, rust / 1e3);
         }
         row.by_draw.into_iter().for_each(|ratio| print!(" | {ratio:15.2}"));
-        println!();
+        println!(" | {:14.2}", row.by_way);
     }
 }
 
@@ -77,7 +80,8 @@ fn print_leaf_times(of_kind: &[Row], call: Call, maker: &str, time: impl Fn(&Tim
     println!();
 }
 
-/// The highest ratio of each call, and of proved calls to the proved drawing, on large surveys and on those of all sizes; and whether a way is too slow.
+/// The highest ratio of each call, of proved calls to the proved drawing, and of the proved convoy to the proved way, on large surveys and on those of all
+/// sizes; and whether a way is too slow.
 pub fn print_worst(rows: &[Row], sizes: &[usize]) {
     println!();
     for call in Call::ALL {
@@ -86,6 +90,7 @@ pub fn print_worst(rows: &[Row], sizes: &[usize]) {
     for call in Call::BY_DRAW {
         print_highest(rows, sizes, call_name(call), "proved / proved draw", |row| row.part_of_draw(call));
     }
+    print_highest(rows, sizes, call_name(Call::Convoy), "proved / proved way", |row| row.by_way);
     if limit::is_too_slow(rows) {
         println!("FAILED: a way takes more than {} of the drawing", limit::MOST);
     }
@@ -137,6 +142,7 @@ pub fn call_name(call: Call) -> &'static str {
         Call::Amended => "amended",
         Call::Calendar => "calendar",
         Call::Way => "way",
+        Call::Convoy => "convoy",
     }
 }
 
@@ -144,11 +150,11 @@ pub fn call_name(call: Call) -> &'static str {
 mod tests {
     use super::*;
 
-    /// A row in which every call has the ratio, and twice that by the drawing.
+    /// A row in which every call has the ratio, twice that by the drawing, and three times that by the way.
     fn row(kind: Kind, splits: usize, ratio: f64) -> Row {
         let times = Call::ALL.map(|_| Timing { proved: ratio, rust: 1.0, ratio });
         let by_draw = Call::BY_DRAW.map(|_| 2.0 * ratio);
-        Row { kind, splits, leaves: 1, points: 0, triangles: 0, times, by_draw }
+        Row { kind, splits, leaves: 1, points: 0, triangles: 0, times, by_draw, by_way: 3.0 * ratio }
     }
 
     #[test]
@@ -166,6 +172,7 @@ mod tests {
             for call in Call::BY_DRAW {
                 assert_eq!(highest(&rows, sizes, |row| row.part_of_draw(call)), 2.0 * expected);
             }
+            assert_eq!(highest(&rows, sizes, |row| row.by_way), 3.0 * expected);
         }
     }
 }
