@@ -60,6 +60,11 @@ pub fn decimal(name: &'static str) -> Arg {
     count(name).value_parser(fitting::<f32>)
 }
 
+/// An option with a decimal number that may stand there any number of times, each with one more number.
+pub fn decimals(name: &'static str) -> Arg {
+    decimal(name).action(ArgAction::Append)
+}
+
 /// An option with the three coordinates of a place; 0 0 0 if it is left out.
 pub fn place(name: &'static str) -> Arg {
     let option = Arg::new(name).long(name).num_args(3).allow_negative_numbers(true);
@@ -167,6 +172,19 @@ mod tests {
     }
 
     #[test]
+    fn decimals_are_taken_in_the_order_given() {
+        let cases: [(&[&str], &[f32]); 3] = [
+            (&[], &[]),
+            (&["--clearance", "24"], &[24.0]),
+            (&["--clearance", "0.1", "--clearance", "-3", "--clearance", "0.1"], &[0.1, -3.0, 0.1]),
+        ];
+        for (given, numbers) in cases {
+            let read = read(&[decimals("clearance")], given).unwrap();
+            assert!(read.get_many::<f32>("clearance").unwrap_or_default().eq(numbers), "{given:?}");
+        }
+    }
+
+    #[test]
     fn what_does_not_fit_is_named() {
         let pair = [path("NAME").required(false).requires("DIR"), path("DIR").required(false)];
         let dated = [file("calendar").requires("minute"), count("minute").requires("calendar")];
@@ -175,7 +193,8 @@ mod tests {
             dated[0].clone(),
             dated[1].clone(),
         ];
-        let cases: [(&[Arg], &[&str], &str); 25] = [
+        let several = [decimals("clearance")];
+        let cases: [(&[Arg], &[&str], &str); 28] = [
             (&[path("DIR"), path("OUT")], &["here"], "OUT is missing"),
             (&pair, &["here"], "DIR is missing"),
             (&[path("DIR")], &["here", "there"], "one argument too many: there"),
@@ -206,6 +225,13 @@ mod tests {
                 &either,
                 &["--clearance", "1", "--calendar", "here", "--minute", "3"],
                 "--clearance does not go with --calendar",
+            ),
+            (&several, &["--clearance", "1", "--clearance"], "--clearance needs N"),
+            (&several, &["--clearance", "1", "2"], "one argument too many: 2"),
+            (
+                &several,
+                &["--clearance", "1", "--clearance", "2;3"],
+                "--clearance: 2;3 is no number that fits",
             ),
             (&[number("X")], &["-1"], "X: -1 is no number that fits"),
             (&[axis("AXIS")], &["w"], "AXIS: w is no number that fits"),

@@ -15,7 +15,8 @@ use crate::arguments::{axis, corner, count, degrees, flag, number, path, place, 
 use crate::calendar;
 use crate::convert;
 use crate::drawing::{
-    self, directory, directory_and_calendar, directory_and_clearance, Subject, DIRECTORY, MINUTE,
+    self, directory, directory_and_calendar, directory_and_clearance, directory_and_clearances, Subject,
+    DIRECTORY, MINUTE,
 };
 use crate::examples;
 use crate::facts;
@@ -168,8 +169,8 @@ const COMMANDS: [Command; 12] = [
     },
     Command {
         name: "way",
-        arguments: "DIR START END [--clearance N] [--json]",
-        summary: "show a way over wet corners",
+        arguments: "DIR START END [--clearance N].. [--json]",
+        summary: "show a way over wet corners, for one boat or a convoy",
         help: concat!(
             "Shows a way for the hull's keel point from the corner START to the corner END, each given by its record number, from 0, or by its\n\
              place x,y,z: over wet corners joined by edges that are not divided, with the fewest steps. Of equally short ways it is the one\n\
@@ -179,16 +180,22 @@ const COMMANDS: [Command; 12] = [
              \x20   clearance example weir-pool pool\n\
              \x20   clearance way pool 256,512,512 768,512,256\n\
              \x20   clearance way pool 256,512,512 768,512,256 --clearance 32\n\n\
-             If START or END is no corner, that is refused by 18. If there is no way, that is refused by 20, with whether START or END is\n\
-             dry, and how many corners can be reached from START. A pool that runs out of the surveyed box serves as any other. A missing\n\
-             file of cells, corners or clearance is an error.\n\
-             --json         print one object: start, end, clearance, steps, length and corners, each with its record and its place; for a\n\
-             \x20              refusal its number, refused, and its words, which stand on standard error too",
-            clearance_help!()
+             With several clearances, up to 16, it is a way for a convoy, whose boats follow one another on one line: its corners are wet at\n\
+             all of them, and it is the way of one boat at the greatest. A last line says how many boats there are, and the greatest clearance:\n\n\
+             \x20   clearance way pool 256,512,512 768,512,256 --clearance 10 --clearance 24.5 --clearance 12\n\n\
+             More than 16 clearances are refused by 21. A clearance beyond its range is refused by 8; of a convoy it is said which. If START\n\
+             or END is no corner, that is refused by 18. If there is no way, that is refused by 20, with whether START or END is dry, how many\n\
+             corners can be reached from START, and for a convoy at which of its clearances a boat alone has a way. A pool that runs out of the\n\
+             surveyed box serves as any other. A missing file of cells, corners or clearance is an error.\n\
+             --json         print one object: start, end, clearance, steps, length and corners, each with its record and its place; for a convoy\n\
+             \x20              clearances, in the order given, and greatest in the place of clearance; for a refusal its number, refused, and its\n\
+             \x20              words, which stand on standard error too",
+            clearance_help!(),
+            ";\n               it stands there once for each boat of a convoy"
         ),
         takes: || {
             let ends = way::ENDS.map(corner);
-            directory_and_clearance().into_iter().chain(ends).chain([flag(JSON)]).collect()
+            directory_and_clearances().into_iter().chain(ends).chain([flag(JSON)]).collect()
         },
         run: way,
     },
@@ -328,8 +335,9 @@ fn overview() -> String {
          corners were sounded again; without this file there are none. Of several records for a corner that of the highest day holds.\n\
          A corner is wet if its sounding is greater than the clearance; ground exactly at the clearance is dry.\n\
          A survey with a wet corner on an outer face of the box is not drawn; 'check', 'enquire' and 'way' still take it.\n\
-         Every command that needs a clearance takes --clearance N in place of the file; where clearances change over the year, 'draw',\n\
-         'obj', 'ply' and 'render' take a calendar and a minute. A file clearance that holds a number as text is an error.\n\
+         Every command that needs a clearance takes --clearance N in place of the file; 'way' takes it several times, for a convoy; where\n\
+         clearances change over the year, 'draw', 'obj', 'ply' and 'render' take a calendar and a minute. A file clearance that holds a\n\
+         number as text is an error.\n\
          'clearance COMMAND --help' says more of a command, 'clearance --version' the version of the tool and of the library's calls.\n\
          Exit status: 0 if all is well, 1 if something is refused, 2 if the command line or a file is wrong.\n",
         lines.collect::<String>()
@@ -387,7 +395,8 @@ fn volume(arguments: &ArgMatches) -> Result<Printed, Failure> {
 
 fn way(arguments: &ArgMatches) -> Result<Printed, Failure> {
     let ends = way::ENDS.map(|name| *taken::<Corner>(arguments, name));
-    answered(arguments, way::find(&drawing::survey(arguments)?, ends))
+    let (survey, clearances) = drawing::survey_and_clearances(arguments)?;
+    answered(arguments, way::find(&survey, &clearances, ends))
 }
 
 /// What a command found, in words or, with `--json`, as an object. A refusal is an object too then, beside its words on standard error.

@@ -7,7 +7,7 @@ use clap::{Arg, ArgMatches};
 use clearance::{Mesh, Refusal};
 use surveys::Survey;
 
-use crate::arguments::{count, decimal, file, path, taken};
+use crate::arguments::{count, decimal, decimals, file, path, taken};
 use crate::failure::Failure;
 use crate::files::{self, Reading};
 
@@ -28,6 +28,11 @@ pub fn directory_and_clearance() -> Vec<Arg> {
     vec![path(DIRECTORY), decimal(CLEARANCE)]
 }
 
+/// What a command takes that needs the clearances of one or more boats: a directory, and any number of clearances.
+pub fn directory_and_clearances() -> Vec<Arg> {
+    vec![path(DIRECTORY), decimals(CLEARANCE)]
+}
+
 /// What a command takes that draws: a directory, and a clearance, or a calendar with a minute, or neither.
 pub fn directory_and_calendar() -> Vec<Arg> {
     vec![
@@ -38,7 +43,7 @@ pub fn directory_and_calendar() -> Vec<Arg> {
     ]
 }
 
-/// The clearance on the command line, if there is one.
+/// The clearance on the command line, if there is one; of several the first.
 fn by_hand(arguments: &ArgMatches) -> Option<f32> {
     arguments.get_one(CLEARANCE).copied()
 }
@@ -46,6 +51,14 @@ fn by_hand(arguments: &ArgMatches) -> Option<f32> {
 /// Reads the survey that a command was given that takes a clearance but no calendar. A missing file is a failure, but for amendments.
 pub fn survey(arguments: &ArgMatches) -> Result<Survey, Failure> {
     files::read(directory(arguments), Reading { as_program: false, clearance: by_hand(arguments) })
+}
+
+/// Reads the survey as [`survey`] does, and the clearances of the boats: those on the command line, in their order, or else the one in its file.
+pub fn survey_and_clearances(arguments: &ArgMatches) -> Result<(Survey, Vec<f32>), Failure> {
+    let survey = survey(arguments)?;
+    let given = arguments.get_many(CLEARANCE);
+    let clearances = given.map_or_else(|| vec![survey.clearance], |given| given.copied().collect());
+    Ok((survey, clearances))
 }
 
 /// A survey, and what says at which clearance it is drawn.

@@ -24,7 +24,7 @@ pub enum Failure {
         /// What is wrong with it.
         words: String,
     },
-    /// The library refused the survey, the clearance, the calendar, the minute, the edge, the reference point or the way.
+    /// The library refused the survey, the clearance, the calendar, the minute, the edge, the reference point, the convoy or the way.
     Refused {
         /// The refusal.
         refusal: Refusal,
