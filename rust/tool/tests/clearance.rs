@@ -68,6 +68,38 @@ fn a_clearance_by_hand_is_refused_as_one_in_the_file() {
     assert!(!place.path.join("picture.svg").exists());
 }
 
+/// Another clearance stands in the file, then text, then there is none.
+#[test]
+fn a_convoys_clearances_are_all_by_hand() {
+    let place = Place::new("by-hand-several");
+    let directory = place.example("twin");
+    let convoy = ["way", &directory, "31", "32", "--clearance", "-2", "--clearance", "-1.5"];
+    let shown = printed(&convoy);
+    assert!(shown.ends_with("\nconvoy of 2; the greatest clearance is -1.5\n"), "{shown}");
+    let file = place.below("twin/clearance");
+    fs::write(&file, "24.0").expect("a file");
+    assert_eq!(printed(&convoy), shown);
+    fs::remove_file(&file).expect("the file is there");
+    assert_eq!(printed(&convoy), shown);
+}
+
+#[test]
+fn way_alone_takes_several_clearances() {
+    let place = Place::new("several");
+    let directory = place.example("twin");
+    let picture = place.below("picture.svg");
+    for command in commands(&directory, &picture, &["--clearance", "0", "--clearance", "0"]) {
+        let Ran { status, errors, .. } = run(&command);
+        if command[0] == "way" {
+            assert_eq!((status, errors.as_str()), (0, ""));
+        } else {
+            assert_eq!(status, 2, "{command:?}");
+            assert!(errors.starts_with("clearance: --clearance is there twice\n"), "{command:?}: {errors}");
+        }
+    }
+    assert!(!place.path.join("picture.svg").exists());
+}
+
 /// Each command names the file, what stands in it, and how to give that.
 fn assert_text_is_named(ran: Ran, file: &str, number: &str) {
     let words = format!(

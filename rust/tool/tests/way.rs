@@ -6,7 +6,7 @@ use std::fs;
 
 use clearance::Passage;
 use clearance_tool::files::{self, tables};
-use common::{printed, run, survey, twin, Place, Ran};
+use common::{printed, root, run, survey, text, twin, Place, Ran};
 use serde_json::{json, Value};
 use surveys::plain::records;
 use surveys::{damage, document, generate, Survey};
@@ -25,12 +25,29 @@ fn passage(survey: &Survey, start: usize, end: usize) -> Passage {
         .expect("both are corners")
 }
 
+/// A question with an option for each of these clearances.
+fn with_clearances<'a>(question: &[&'a str], clearances: &[&'a str]) -> Vec<&'a str> {
+    let options = clearances.iter().flat_map(|clearance| ["--clearance", clearance]);
+    question.iter().copied().chain(options).collect()
+}
+
 /// The longest of the shortest ways from the first wet corner of a survey that has one.
 fn longest(survey: &Survey) -> Option<Vec<u16>> {
     let start = (0..places(survey).len()).find(|&corner| passage(survey, corner, corner).way.is_some())?;
     let steps = passage(survey, start, start).steps;
     let end = (0..steps.len()).max_by_key(|&corner| steps[corner])?;
     passage(survey, start, end).way
+}
+
+/// Random surveys with a wet corner, each with the directory that it is written into and the longest of its shortest ways.
+fn written(place: &Place) -> impl Iterator<Item = (String, Survey, Vec<u16>)> + '_ {
+    (0..24).filter_map(|seed| {
+        let survey = generate::mixed(seed);
+        let way = longest(&survey)?;
+        let directory = place.below(&format!("seed-{seed}"));
+        files::write(directory.as_ref(), &survey, &[]).expect("the survey is written");
+        Some((directory, survey, way))
+    })
 }
 
 /// The lengths of the steps of a way, which each go along one axis.
@@ -56,7 +73,7 @@ fn words(places: &[[u16; 3]], way: &[u16]) -> String {
     way.iter().map(line).chain([last]).collect()
 }
 
-/// The object that the tool should print of a way.
+/// The object that the tool should print of a way for one boat.
 fn object(survey: &Survey, way: &[u16]) -> Value {
     let places = places(survey);
     let corner = |&record: &u16| json!({ "record": record, "place": places[usize::from(record)] });
@@ -71,26 +88,36 @@ fn object(survey: &Survey, way: &[u16]) -> Value {
     })
 }
 
+/// The object that the tool should print of a way for a convoy, if the survey's clearance is the greatest.
+fn convoy_object(survey: &Survey, clearances: &[f32], way: &[u16]) -> Value {
+    let one_boat = object(survey, way);
+    json!({
+        "start": one_boat["start"],
+        "end": one_boat["end"],
+        "clearances": clearances,
+        "greatest": survey.clearance,
+        "steps": one_boat["steps"],
+        "length": one_boat["length"],
+        "corners": one_boat["corners"],
+    })
+}
+
 #[test]
 fn the_librarys_way_is_shown_by_number_and_by_place() {
     let place = Place::new("way");
     let mut most = 0;
-    for seed in 0..24 {
-        let survey = generate::mixed(seed);
-        let Some(way) = longest(&survey) else { continue };
-        let directory = place.below(&seed.to_string());
-        files::write(directory.as_ref(), &survey, &[]).expect("the survey is written");
+    for (directory, survey, way) in written(&place) {
         let places = places(&survey);
         let ends = [way[0], way[way.len() - 1]];
         let [start, end] = ends.map(|end| end.to_string());
         let [start_place, end_place] = ends.map(|end| spelled(places[usize::from(end)]));
         for ends in [[&start, &end], [&start_place, &end_place], [&start, &end_place]] {
             let shown = printed(&["way", &directory, ends[0], ends[1]]);
-            assert_eq!(shown, words(&places, &way), "seed {seed}, {ends:?}");
+            assert_eq!(shown, words(&places, &way), "{directory}, {ends:?}");
         }
         let shown = printed(&["way", &directory, &start_place, &end, "--json"]);
         let read: Value = serde_json::from_str(&shown).expect("JSON");
-        assert_eq!(read, object(&survey, &way), "seed {seed}");
+        assert_eq!(read, object(&survey, &way), "{directory}");
         most = most.max(way.len());
     }
     assert!(most >= 8, "{most}");
@@ -119,6 +146,84 @@ fn an_object_is_one_line() {
     let tenth = printed(&["way", &twin(), "31", "31", "--json", "--clearance", "0.1"]);
     let read: Value = serde_json::from_str(&tenth).expect("JSON");
     assert_eq!(read["clearance"].as_f64(), Some(f64::from(0.1f32)));
+}
+
+#[test]
+fn a_convoys_object_has_its_clearances_and_the_greatest() {
+    let question = ["way", &twin(), "32", "256,512,512", "--json"];
+    let shown = printed(&with_clearances(&question, &["-2", "-1.5", "-3", "-1.5"]));
+    let expected = "{\"start\":32,\"end\":31,\"clearances\":[-2.0,-1.5,-3.0,-1.5],\"greatest\":-1.5,\"steps\":1,\"length\":256,\
+                    \"corners\":[{\"record\":32,\"place\":[512,512,512]},{\"record\":31,\"place\":[256,512,512]}]}\n";
+    assert_eq!(shown, expected);
+    // The binary32 that were taken, and not the decimal numbers.
+    let tenths = printed(&with_clearances(&["way", &twin(), "31", "31", "--json"], &["0.1", "-0.1"]));
+    let read: Value = serde_json::from_str(&tenths).expect("JSON");
+    let tenth = f64::from(0.1f32);
+    assert_eq!((&read["clearances"], &read["greatest"]), (&json!([tenth, -tenth]), &json!(tenth)));
+}
+
+/// Three boats in every order.
+fn orders([one, other, third]: [&str; 3]) -> [[&str; 3]; 6] {
+    [
+        [one, other, third],
+        [one, third, other],
+        [other, one, third],
+        [other, third, one],
+        [third, one, other],
+        [third, other, one],
+    ]
+}
+
+/// What the tool should print of a convoy, behind what it prints of the boat with the greatest clearance.
+fn convoy_words(alone: &str, boats: usize, greatest: &str) -> String {
+    format!("{alone}convoy of {boats}; the greatest clearance is {greatest}\n")
+}
+
+#[test]
+fn a_convoy_has_the_way_of_one_boat_at_the_greatest_clearance() {
+    let cases = [
+        ("weir-pool", ["256,512,512", "768,512,256"], ["10", "12", "24.5"]),
+        ("weir-pool", ["768,512,256", "256,512,512"], ["-2500", "-7.5", "-0.125"]),
+        ("lock-chamber", ["640,384,576", "896,704,416"], ["-3", "0", "40"]),
+    ];
+    for (name, ends, boats) in cases {
+        let directory = root().join("examples").join(name);
+        let question = ["way", text(&directory), ends[0], ends[1]];
+        let [least, _, greatest] = boats;
+        let [low, high] =
+            [least, greatest].map(|clearance| printed(&with_clearances(&question, &[clearance])));
+        assert_ne!(low, high, "{name} at {least} and {greatest}");
+        for order in orders(boats) {
+            let shown = printed(&with_clearances(&question, &order));
+            assert_eq!(shown, convoy_words(&high, 3, greatest), "{name} at {order:?}");
+        }
+        // Boats with one clearance are a convoy too.
+        let shown = printed(&with_clearances(&question, &[greatest; 2]));
+        assert_eq!(shown, convoy_words(&high, 2, greatest), "{name}");
+    }
+}
+
+/// The survey's clearance is that of the boat in the middle, and the greatest.
+#[test]
+fn the_librarys_way_is_shown_to_a_convoy() {
+    let place = Place::new("convoy");
+    let mut others = 0;
+    for (directory, survey, way) in written(&place) {
+        let least = (survey.clearance - 1.0).max(-1_048_576.0);
+        let clearances = [least, survey.clearance, least];
+        let boats = clearances.map(|clearance| clearance.to_string());
+        let [start, end] = [way[0], way[way.len() - 1]].map(|end| end.to_string());
+        let question = ["way", &directory, &start, &end];
+        let question = with_clearances(&question, &boats.each_ref().map(String::as_str));
+        let alone = words(&places(&survey), &way);
+        assert_eq!(printed(&question), convoy_words(&alone, 3, &boats[1]), "{directory}");
+        // As text, in which no digit of a number is lost.
+        let shown = printed(&[&question, &["--json"][..]].concat());
+        assert_eq!(shown, format!("{}\n", convoy_object(&survey, &clearances, &way)), "{directory}");
+        let lower = Survey { clearance: least, ..survey };
+        others += usize::from(passage(&lower, way[0].into(), way[way.len() - 1].into()).way != Some(way));
+    }
+    assert!(others >= 4, "{others} times the way at the least is another");
 }
 
 /// The straight line between the two is dry where it meets the crest.
@@ -167,7 +272,43 @@ fn the_surveys_own_refusals_come_first() {
         files::write(directory.as_ref(), &damaged.survey, &[]).expect("the survey is written");
         let words = clearance::Refusal::from_number(refusal).expect("a refusal").to_string();
         // Neither is a corner, which 18 would say.
-        assert_refused(&["way", &directory, "1,2,3", "4872"], refusal, &words);
+        let question = ["way", &directory, "1,2,3", "4872"];
+        assert_refused(&question, refusal, &words);
+        // Of a convoy the clearances are by hand, and this one is refused by 21 otherwise.
+        if refusal != clearance::Refusal::Clearance.number() {
+            assert_refused(&with_clearances(&question, &["nan"; 17]), refusal, &words);
+        }
+    }
+}
+
+#[test]
+fn sixteen_boats_are_the_most() {
+    let boats: Vec<String> = (1..=17).map(|boat| format!("-{boat}")).collect();
+    let boats: Vec<&str> = boats.iter().map(String::as_str).collect();
+    let directory = twin();
+    let question = ["way", &directory, "31", "45"];
+    let one = printed(&with_clearances(&question, &["-2"]));
+    assert_eq!(printed(&with_clearances(&question, &boats[1..])), convoy_words(&one, 16, "-2"));
+    let words = "the convoy has no clearance or more than 16";
+    assert_refused(&with_clearances(&question, &boats), 21, words);
+    // Before a clearance beyond its range and an end that is no corner are looked at.
+    let seventeen = with_clearances(&["way", &directory, "1,2,3", "46"], &["nan"; 17]);
+    assert_refused(&seventeen, 21, words);
+}
+
+#[test]
+fn a_convoys_clearances_beyond_their_range_are_named() {
+    let cases: [(&[&str], &str); 5] = [
+        (&["1", "nan"], "clearance 2 of 2 is NaN"),
+        (&["1", "2", "-inf", "3"], "clearance 3 of 4 is -inf"),
+        (&["1048577", "1048576", "-1048576"], "clearance 1 of 3 is 1048577"),
+        (&["2e6", "-4", "-1048577"], "clearance 1 of 3 is 2000000; clearance 3 of 3 is -1048577"),
+        (&["inf"; 2], "clearance 1 of 2 is inf; clearance 2 of 2 is inf"),
+    ];
+    for (boats, why) in cases {
+        let words = format!("the clearance is not finite or beyond ±1,048,576: {why}");
+        // Neither is a corner, which 18 would say.
+        assert_refused(&with_clearances(&["way", &twin(), "1,2,3", "46"], boats), 8, &words);
     }
 }
 
@@ -211,6 +352,27 @@ fn why_there_is_no_way_is_said() {
     }
 }
 
+/// Of the twin survey's corners 31 alone is wet at 0 and 0.5, and all are at -2 and -1.5. Of one boat no more is said.
+#[test]
+fn which_boats_have_a_way_alone_is_said() {
+    let no_way = "no way over wet corners leads from the start to the end";
+    let cases: [(&[&str], &str); 5] = [
+        (&["0.5"], ""),
+        (&["-2", "0.5"], "; a boat alone has a way at -2, and none at 0.5"),
+        (&["0.5", "-2", "-1.5"], "; a boat alone has a way at -2 and -1.5, and none at 0.5"),
+        (&["0.5", "-2", "0", "-2"], "; a boat alone has a way at -2, and none at 0 and 0.5"),
+        (&["0", "0.5"], "; no boat has a way alone"),
+    ];
+    for (boats, alone) in cases {
+        let reached = "the end is dry; from the start 1 of 46 corners can be reached, the start included";
+        let words = format!("{no_way}: {reached}{alone}");
+        assert_refused(&with_clearances(&["way", &twin(), "31", "45"], boats), 20, &words);
+        let reached = "the start is dry; from the start 0 of 46 corners can be reached";
+        let words = format!("{no_way}: {reached}{alone}");
+        assert_refused(&with_clearances(&["way", &twin(), "45", "31"], boats), 20, &words);
+    }
+}
+
 /// Corners in reach are counted by the library's own steps.
 #[test]
 fn corners_in_reach_are_counted() {
@@ -248,5 +410,5 @@ fn the_helps_example_runs() {
         let arguments = line.split(' ').map(|word| if word == "pool" { pool.as_str() } else { word });
         run(&arguments.collect::<Vec<&str>>()).status
     });
-    assert_eq!(outcomes.collect::<Vec<i32>>(), [0, 0, 1], "{help}");
+    assert_eq!(outcomes.collect::<Vec<i32>>(), [0, 0, 1, 0], "{help}");
 }
