@@ -235,7 +235,6 @@ fn listed(things: &[String]) -> String {
 #[cfg(test)]
 mod tests {
     use super::*;
-    use surveys::document;
 
     #[test]
     fn things_are_listed_with_and_before_the_last() {
@@ -248,13 +247,6 @@ mod tests {
         for (things, words) in cases {
             assert_eq!(listed(&things.iter().map(|&thing| thing.to_owned()).collect::<Vec<_>>()), words);
         }
-    }
-
-    #[test]
-    fn clearances_beyond_range_are_named_by_their_places() {
-        assert_eq!(beyond_range(&[1.0, f32::NAN]), "clearance 2 of 2 is NaN");
-        let three = [f32::INFINITY, -1_048_576.0, -1_048_577.0];
-        assert_eq!(beyond_range(&three), "clearance 1 of 3 is inf; clearance 3 of 3 is -1048577");
     }
 
     /// The greatest does not depend on the order, for the two zeros neither; one boat has none.
@@ -271,20 +263,6 @@ mod tests {
         for (clearances, greatest) in cases {
             let way = Way { clearances: clearances.to_vec(), corners: Vec::new() };
             assert_eq!(way.greatest().map(f32::to_bits), greatest.map(f32::to_bits), "{clearances:?}");
-        }
-    }
-
-    /// The twin survey has one wet corner at 0, and no dry one below -1.
-    #[test]
-    fn clearances_at_which_a_boat_alone_has_a_way_rise() {
-        let cases: [(&[f32], &str); 4] = [
-            (&[0.5, -2.0], "a boat alone has a way at -2, and none at 0.5"),
-            (&[0.0, -1.5, 0.5, -2.0, -1.5], "a boat alone has a way at -2 and -1.5, and none at 0 and 0.5"),
-            (&[-3.0, 0.0, -2.5, -2.0], "a boat alone has a way at -3, -2.5 and -2, and none at 0"),
-            (&[0.5, 0.0], "no boat has a way alone"),
-        ];
-        for (clearances, words) in cases {
-            assert_eq!(alone(&document::twin(), clearances, [31, 45]).as_deref(), Ok(words));
         }
     }
 }

@@ -371,6 +371,13 @@ fn which_boats_have_a_way_alone_is_said() {
         let words = format!("{no_way}: {reached}{alone}");
         assert_refused(&with_clearances(&["way", &twin(), "45", "31"], boats), 20, &words);
     }
+    let pool = root().join("examples/weir-pool");
+    let question = ["way", text(&pool), "256,512,512", "768,512,256"];
+    let words = format!(
+        "{no_way}: both are wet, but the end is out of reach; from the start 176 of 2914 corners can be reached, the start included; \
+         a boat alone has a way at 10 and 12, and none at 32"
+    );
+    assert_refused(&with_clearances(&question, &["10", "32", "12"]), 20, &words);
 }
 
 /// Corners in reach are counted by the library's own steps.
