@@ -12,7 +12,7 @@ use std::collections::BTreeMap;
 use drawing::Passage;
 use how_many::{large, small};
 use passages::{
-    assert_any_numbers, assert_due, assert_in_vectors, assert_same, compiled, small_surveys,
+    assert_any_numbers, assert_damaged, assert_due, assert_in_vectors, assert_same, compiled, small_surveys,
     surveys_of_a_given_size, surveys_of_every_size, winding_surveys, Boats, Seeded,
 };
 use surveys::asked::{compare_convoys_with_all_ways, Asked};
@@ -20,7 +20,7 @@ use surveys::boats::{convoy_questions, convoy_questions_with_own, kinds, lawful_
 use surveys::convoys::{known, several, Known, Several};
 use surveys::joints::Joints;
 use surveys::lent::WaySlices;
-use surveys::refusals::{of_convoy, CONVOY, NO_WAY, ORDER, WAY_END, WAY_SLICE};
+use surveys::refusals::{of_convoy, CONVOY, NO_WAY, WAY_END, WAY_SLICE};
 use surveys::survey::Record;
 use surveys::tally::Ways;
 use surveys::{damage, Survey};
@@ -180,18 +180,10 @@ fn convoys_on_winding_ways() {
 /// The survey's own clearance, which may be what is wrong with it, is that of one boat.
 #[test]
 fn damaged_surveys_touch_nothing() {
-    let mut met: BTreeMap<u32, u64> = ORDER.map(|refusal| (refusal, 0)).into();
-    for seed in 0..small() {
-        let damage::Damaged { survey, refusal } = damage::damaged(seed);
-        met.entry(refusal).and_modify(|count| *count += 1);
-        let what = format!("damaged, seed {seed}");
-        for convoy in convoy_questions_with_own(seed, &survey, 1) {
-            let (refused, ..) = assert_answered(&survey, &convoy, seed, &what);
-            assert_eq!(refused.number, refusal, "{what}, {convoy:?}");
-        }
-    }
-    println!("damaged, by refusal: {met:?}");
-    assert!(small() < 1_000 || met.values().all(|&count| count > small() / 50), "by refusal: {met:?}");
+    assert_damaged(|survey, seed, what| {
+        let convoys = convoy_questions_with_own(seed, survey, 1).into_iter();
+        convoys.map(|convoy| assert_answered(survey, &convoy, seed, what).0.number).collect()
+    });
 }
 
 #[test]

@@ -7,16 +7,14 @@ mod how_many;
 mod passages;
 mod tables;
 
-use std::collections::BTreeMap;
-
 use how_many::{large, small};
 use passages::{
-    assert_any_numbers, assert_due, assert_in_vectors, assert_same, small_surveys, surveys_of_a_given_size,
-    surveys_of_every_size, winding_surveys, Boats, Seeded,
+    assert_any_numbers, assert_damaged, assert_due, assert_in_vectors, assert_same, small_surveys,
+    surveys_of_a_given_size, surveys_of_every_size, winding_surveys, Boats, Seeded,
 };
 use surveys::asked::{compare_with_all_ways, questions, Asked};
 use surveys::joints::Joints;
-use surveys::refusals::{of_way, ORDER};
+use surveys::refusals::of_way;
 use surveys::tally::Ways;
 use surveys::ways::{known, several, Known, Several};
 use surveys::{damage, Survey};
@@ -109,18 +107,10 @@ fn winding_ways() {
 
 #[test]
 fn damaged_surveys_touch_nothing() {
-    let mut met: BTreeMap<u32, u64> = ORDER.map(|refusal| (refusal, 0)).into();
-    for seed in 0..small() {
-        let damage::Damaged { survey, refusal } = damage::damaged(seed);
-        met.entry(refusal).and_modify(|count| *count += 1);
-        for asked in questions(seed, &survey, 2) {
-            let what = format!("damaged, seed {seed}");
-            let (refused, ..) = assert_same(&survey, boat(&survey), asked, seed, &what);
-            assert_eq!(refused.number, refusal, "damaged, seed {seed}");
-        }
-    }
-    println!("damaged, by refusal: {met:?}");
-    assert!(small() < 1_000 || met.values().all(|&count| count > small() / 50), "by refusal: {met:?}");
+    assert_damaged(|survey, seed, what| {
+        let asked = questions(seed, survey, 2).into_iter();
+        asked.map(|asked| assert_same(survey, boat(survey), asked, seed, what).0.number).collect()
+    });
 }
 
 #[test]

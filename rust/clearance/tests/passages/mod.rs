@@ -1,12 +1,15 @@
 //! Ways by the compiled calls and by the independent ones, for one boat and for a convoy, and the surveys that they are asked about. Each survey comes with
 //! its seed and with words that name the generator and the seed, for a failure to tell.
 
+use std::collections::BTreeMap;
+
 use clearance::Refusal;
 use drawing::Passage;
 use surveys::asked::{winding, Asked};
+use surveys::damage::{damaged, Damaged};
 use surveys::joints::Due;
 use surveys::lent::{lend_for_way, WaySlices};
-use surveys::refusals::NO_WAY;
+use surveys::refusals::{NO_WAY, ORDER};
 use surveys::sized::{self, Kind};
 use surveys::survey::Record;
 use surveys::{document, generate, Survey};
@@ -129,6 +132,22 @@ pub fn assert_any_numbers(boats: Boats) {
         let (result, ..) = assert_in_vectors(&survey, boats, [start, end], 1, "extreme numbers");
         assert_eq!(result.number, if start <= last && end <= last { 0 } else { 18 }, "from {start} to {end}");
     }
+}
+
+/// Hands damaged surveys to questions, which give back the numbers returned: each must be the refusal of the first check that finds damage. Stops if some
+/// refusal was met too seldom.
+pub fn assert_damaged(numbers: impl Fn(&Survey, u64, &str) -> Vec<u32>) {
+    let mut met: BTreeMap<u32, u64> = ORDER.map(|refusal| (refusal, 0)).into();
+    for seed in 0..small() {
+        let Damaged { survey, refusal } = damaged(seed);
+        let what = format!("damaged, seed {seed}");
+        let given = numbers(&survey, seed, &what);
+        let is_given = !given.is_empty() && given.iter().all(|&number| number == refusal);
+        assert!(is_given, "{what}: {given:?}, and not {refusal}");
+        met.entry(refusal).and_modify(|count| *count += 1);
+    }
+    println!("damaged, by refusal: {met:?}");
+    assert!(small() < 1_000 || met.values().all(|&count| count > small() / 50), "by refusal: {met:?}");
 }
 
 /// A survey, the seed of the questions about it, and what a failure says of both.
