@@ -262,6 +262,6 @@ module _ (tc tk ta : List ℕ) where
   pub after-survey : (us : List (ℕ × Bool)) → firstOf (checkOrder tc tk ta ++ us) ≡ cond (eqb surveyNumber 0) (firstOf us) surveyNumber
   after-survey us = first-append (checkOrder tc tk ta) us survey-numbered
 
-  pub checked : checkAmended tc tk ta ≡ surveyNumber
+  pub check-is : checkAmended tc tk ta ≡ surveyNumber
   unfolding ChecksInOrder
-  checked = checks-in-order tc tk ta .check
+  check-is = checks-in-order tc tk ta .check

@@ -65,6 +65,10 @@ module _ {A : Type 0} where
   in-get (x ∷ xs) zero d h = inl refl
   in-get (x ∷ xs) (suc n) d h = inr (in-get xs n d (omega arith))
 
+  pub get→all : (f : A → Bool) (d : A) (xs : List A) → ((n : ℕ) → n < length xs → T (f (getD xs n d))) → T (all f xs)
+  get→all f d [] h = tt
+  get→all f d (x ∷ xs) h = →and (f x) (all f xs) (h 0 (omega arith)) (get→all f d xs (λ n l. h (suc n) (omega arith)))
+
   -- an element of the list does not depend on what stands for one beyond its end
   pub get-any : (xs : List A) (n : ℕ) (d e : A) → n < length xs → getD xs n d ≡ getD xs n e
   get-any [] n d e h = absurd (omega arith)

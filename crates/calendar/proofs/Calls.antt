@@ -23,26 +23,26 @@ use Rattle.calendar.specs.declared.Reading.{Reading}
 use Rattle.calendar.specs.declared.Reading.the-variants.{Refused, Clearance}
 
 module _ (tc tk ta : List ℕ) where
-  abbrev first : ℕ
-  first = surveyNumber tc tk ta
+  abbrev number : ℕ
+  number = surveyNumber tc tk ta
 
   -- a survey that is refused by itself is drawn at no clearance
-  module _ (clearance : Float) (ps : List Float) (ts : List ℕ) (some : first ≡ 0 → ⊥) where
+  module _ (clearance : Float) (ps : List Float) (ts : List ℕ) (some : number ≡ 0 → ⊥) where
     abbrev tablesNumber : ℕ
     tablesNumber = firstOf (amendmentChecks tc tk ta)
 
-    seven-after : first ≡ cond (eqb tablesNumber 0) (firstOf (soundingCheck (amended tk ta) ∷ [])) tablesNumber
+    seven-after : number ≡ cond (eqb tablesNumber 0) (firstOf (soundingCheck (amended tk ta) ∷ [])) tablesNumber
     unfolding checkOrder
     seven-after = first-append (amendmentChecks tc tk ta) (soundingCheck (amended tk ta) ∷ []) (all-numbered tc tk ta)
 
     -- by 1 to 6, 14 or 15
-    by-tables : (tablesNumber ≡ 0 → ⊥) → drawAmended tc tk ta clearance ps ts ≡ undrawn first ps ts
+    by-tables : (tablesNumber ≡ 0 → ⊥) → drawAmended tc tk ta clearance ps ts ≡ undrawn number ps ts
     by-tables apply =
         refused-is tc tk ta clearance ps ts tablesNumber refl apply
         ∙ ap (λ m. undrawn m ps ts) (sym (seven-after ∙ rw (ne-eqb tablesNumber 0 apply)))
 
     -- by 7 of the table as amended
-    seven-first : tablesNumber ≡ 0 → first ≡ firstOf (drawingChecks tc (amended tk ta) clearance)
+    seven-first : tablesNumber ≡ 0 → number ≡ firstOf (drawingChecks tc (amended tk ta) clearance)
     unfolding drawingChecks checks surveyChecks tableChecks
     seven-first pass = seven-after ∙ rw pass (go (seven .1) (λ z. some (seven-after ∙ rw (pass, z) refl)) ∙ sym behind-tables)
       where
@@ -61,16 +61,16 @@ module _ (tc tk ta : List ℕ) where
         go true applies = refl
         go false applies = absurd (applies refl)
 
-    by-seven : tablesNumber ≡ 0 → drawAmended tc tk ta clearance ps ts ≡ undrawn first ps ts
+    by-seven : tablesNumber ≡ 0 → drawAmended tc tk ta clearance ps ts ≡ undrawn number ps ts
     by-seven pass =
-        let d = refused tc (amended tk ta) clearance ps ts first (seven-first pass) some in
+        let d = refused tc (amended tk ta) clearance ps ts number (seven-first pass) some in
         drawn-is tc tk ta clearance ps ts pass
         ∙ (λ i. record { result = sym (d .result-is) i; points = sym (d .points-are) i; triangles = sym (d .triangles-are) i })
 
-    pub survey-undrawn : drawAmended tc tk ta clearance ps ts ≡ undrawn first ps ts
+    pub survey-undrawn : drawAmended tc tk ta clearance ps ts ≡ undrawn number ps ts
     survey-undrawn = go (eqb tablesNumber 0) refl
       where
-        go : (b : Bool) → eqb tablesNumber 0 ≡ b → drawAmended tc tk ta clearance ps ts ≡ undrawn first ps ts
+        go : (b : Bool) → eqb tablesNumber 0 ≡ b → drawAmended tc tk ta clearance ps ts ≡ undrawn number ps ts
         go true e = by-seven (eqb→eq tablesNumber 0 (→true e))
         go false e = by-tables (eqb-false tablesNumber 0 e)
 

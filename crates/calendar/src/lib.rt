@@ -91,7 +91,7 @@ fn refused(cells: &[u8], corners: &[u8], amendments: &[u8], number: u32) -> Draw
     } ⌝ }
 {
     Drawn {
-        number: checks::check_first(cells, corners, amendments, number),
+        number: checks::check_before(cells, corners, amendments, number),
         points: 0,
         triangles: 0,
     }

@@ -198,7 +198,7 @@ pub fn check(cells: &[u8], corners: &[u8], amendments: &[u8]) -> u32
 }
 
 // Where a call refuses something that it is lent besides, by a number: the first refusal of the survey by itself, and only then that number.
-pub fn check_first(cells: &[u8], corners: &[u8], amendments: &[u8], number: u32) -> u32
+pub fn check_before(cells: &[u8], corners: &[u8], amendments: &[u8], number: u32) -> u32
     ensures { λ r. ⌜ r ≡ firstOf (checkOrder (now (cells .entry)) (now (corners .entry)) (now (amendments .entry)) ++ (number, true) ∷ []) ⌝ }
 {
     let first = check(cells, corners, amendments);

@@ -20,7 +20,7 @@ ghost use Rattle.rules.specs.Water.{beyondBox};
 ghost use Rattle.rules.specs.Resounding.{amended, checkAmended, enquiryAmended, drawAmended, volumeAmended};
 ghost use Rattle.rules.specs.Calendar.{periodAt, clearanceAt, drawByCalendar, InForce};
 ghost use Rattle.rules.specs.Ways.{cornerGraph, passageAmended, Means};
-ghost use Rattle.rules.specs.Convoy.{convoyGraph, convoyAmended, clearanceOf, Greatest};
+ghost use Rattle.rules.specs.Convoy.{convoyGraph, convoyAmended, boatClearance, Greatest};
 ghost use Rattle.ways.specs.Shows.{Shows, shownBy};
 ghost use Rattle.enquiry.specs.Enquiry.{lowerEnd};
 ghost use Rattle.water.specs.Corners.{referencePlace};
@@ -243,10 +243,10 @@ pub extern "C" fn clearance_convoy(
 ) -> Passage
     ensures exact { λ r. ⌜ Shows (convoyAmended (now (cells .entry)) (now (corners .entry)) (now (amendments .entry)) (now (clearances .entry)) start end
         (now (way .entry)) (now (work .entry))) r (now (way .exit)) (now (work .exit)) ⌝ }
-    ensures means { λ r. ⌜ Means (convoyGraph (now (cells .entry)) (amended (now (corners .entry)) (now (amendments .entry))) (now (clearances .entry))) start end
-        (now (way .entry)) (now (work .entry)) (shownBy r (now (way .exit)) (now (work .exit))) ⌝ }
+    ensures means { λ r. ⌜ Means (convoyGraph (now (cells .entry)) (amended (now (corners .entry)) (now (amendments .entry))) (now (clearances .entry)))
+        start end (now (way .entry)) (now (work .entry)) (shownBy r (now (way .exit)) (now (work .exit))) ⌝ }
     ensures as_greatest { λ r. ⌜ ((k : ℕ) → Greatest (now (clearances .entry)) k
-        → Shows (passageAmended (now (cells .entry)) (now (corners .entry)) (now (amendments .entry)) (clearanceOf (now (clearances .entry)) k) start end
+        → Shows (passageAmended (now (cells .entry)) (now (corners .entry)) (now (amendments .entry)) (boatClearance (now (clearances .entry)) k) start end
         (now (way .entry)) (now (work .entry))) r (now (way .exit)) (now (work .exit))) ⌝ }
 {
     convoy::find(

@@ -1,19 +1,18 @@
 -- The corners of a convoy: they are those of one boat at the greatest clearance, and its ways are those of each of its boats.
-use Prim.Native.Nat.{ℕ, suc, _≤_, _<_}
-use mathlib.Core.Path.{_≡_, refl, sym, subst, fun-ext}
-use mathlib.Core.Logic.{inl, inr}
-use mathlib.Core.Bool.{Bool, _&&_}
-use mathlib.Core.List.{List, [], _∷_, map}
+use Prim.Native.Nat.{ℕ, _≤_, _<_}
+use mathlib.Core.Path.{_≡_, sym, subst, fun-ext}
+use mathlib.Core.List.{List, map}
 use native.Mathlib.Omega.{arith}
 use lib.Dec.{T, ltb}
 use lib.Ieee.{Float, nan}
-use lib.ListN.{length, getD}
+use lib.ListN.{length}
 use Rattle.base.specs.Lists.{all}
 use Rattle.base.proofs.Tests.{and→, →and, tests-equal}
-use Rattle.base.proofs.Lists.{In, all→in, in→all, in-get}
+use Rattle.base.proofs.Lists.{all→in, in→all, in-get, get→all}
 use Rattle.rules.specs.Survey.{recordCount, cornersOf, cornerAt, placeOf, wetAt}
-use Rattle.rules.specs.Ways.{Graph, cornerPlace, passable, Way, one, more, BothWays, cornerGraph, JoinedBothWays}
-use Rattle.rules.specs.Convoy.{convoyGraph, clearanceOf, WaysTogether}
+use Rattle.rules.specs.Ways.{Graph, cornerPlace, passable, BothWays, cornerGraph, JoinedBothWays}
+use Rattle.rules.specs.Convoy.{convoyGraph, boatClearance, WaysTogether}
+use Rattle.graph.proofs.Ways.{way-wet, way-there}
 use Rattle.ways.proofs.Joined.{joined-both-ways}
 use Rattle.ways.proofs.Marks.{size-is}
 use Rattle.convoy.proofs.Together.{Top, wet-together}
@@ -46,53 +45,35 @@ module _ (tc tk : List ℕ) (clearances : List Float) where
 
 -- ---- ways
 
--- every corner of a way is wet
-way-wet : (graph : Graph) {start end : ℕ} {w : List ℕ} → Way graph start end w → (k : ℕ) → In k w → T (passable graph k)
-way-wet graph (one t) k (inl e) = subst (λ n. T (passable graph n)) (sym e) t
-way-wet graph (one t) k (inr i) = absurd i
-way-wet graph (more t l y) k (inl e) = subst (λ n. T (passable graph n)) (sym e) t
-way-wet graph (more t l y) k (inr i) = way-wet graph y k i
-
--- where its corners are wet in another graph too, and what is joined is joined there, it is a way there
-carried : (graph other : Graph) → ((j k : ℕ) → T (graph .joined j k) → T (other .joined j k)) →
-    {start end : ℕ} {w : List ℕ} → Way graph start end w → ((k : ℕ) → In k w → T (passable other k)) → Way other start end w
-carried graph other step (one {k = k} t) wet = one (wet k (inl refl))
-carried graph other step (more {j = j} {k = k} t l y) wet = more (wet j (inl refl)) (step j k l) (carried graph other step y (λ n i. wet n (inr i)))
-
--- a test that passes at every position
-all-positions : {A : Type 0} (f : A → Bool) (d : A) (xs : List A) → ((k : ℕ) → k < length xs → T (f (getD xs k d))) → T (all f xs)
-all-positions f d [] h = tt
-all-positions f d (x ∷ xs) h = →and (f x) (all f xs) (h 0 (omega arith)) (all-positions f d xs (λ k l. h (suc k) (omega arith)))
-
 module _ (tc tk : List ℕ) (clearances : List Float) where
   abbrev convoy : Graph
   convoy = convoyGraph tc tk clearances
 
   -- the corners as boat k sees them
   abbrev boat : ℕ → Graph
-  boat k = cornerGraph tc tk (clearanceOf clearances k)
+  boat k = cornerGraph tc tk (boatClearance clearances k)
 
   -- a corner that the convoy may pass each boat may pass
   for-each : (k : ℕ) → k < length clearances → (n : ℕ) → T (passable convoy n) → T (passable (boat k) n)
   unfolding convoyGraph
   for-each k h n t =
       let (a, b) = and→ (ltb n (recordCount tk)) (all (λ c. cornerGraph tc tk c .wet n) clearances) t in
-      →and (ltb n (boat k .size)) (boat k .wet n) (subst (λ (m : ℕ). T (ltb n m)) (sym (size-is tc tk (clearanceOf clearances k))) a)
-      (all→in (λ c. cornerGraph tc tk c .wet n) clearances b (clearanceOf clearances k) (in-get clearances k nan h))
+      →and (ltb n (boat k .size)) (boat k .wet n) (subst (λ (m : ℕ). T (ltb n m)) (sym (size-is tc tk (boatClearance clearances k))) a)
+      (all→in (λ c. cornerGraph tc tk c .wet n) clearances b (boatClearance clearances k) (in-get clearances k nan h))
 
   -- and one that each boat may pass the convoy may pass
   for-all : 1 ≤ length clearances → (n : ℕ) → ((k : ℕ) → k < length clearances → T (passable (boat k) n)) → T (passable convoy n)
   unfolding convoyGraph
   for-all some n each =
       →and (ltb n (recordCount tk)) (all (λ c. cornerGraph tc tk c .wet n) clearances)
-      (subst (λ (m : ℕ). T (ltb n m)) (size-is tc tk (clearanceOf clearances 0)) (and→ (ltb n (boat 0 .size)) (boat 0 .wet n) (each 0 (omega arith)) .0))
-      (all-positions (λ c. cornerGraph tc tk c .wet n) nan clearances (λ k h. and→ (ltb n (boat k .size)) (boat k .wet n) (each k h) .1))
+      (subst (λ (m : ℕ). T (ltb n m)) (size-is tc tk (boatClearance clearances 0)) (and→ (ltb n (boat 0 .size)) (boat 0 .wet n) (each 0 (omega arith)) .0))
+      (get→all (λ c. cornerGraph tc tk c .wet n) nan clearances (λ k h. and→ (ltb n (boat k .size)) (boat k .wet n) (each k h) .1))
 
   -- which corners are joined does not depend on the clearance
   joined-each : (k : ℕ) → k < length clearances → (i j : ℕ) → T (convoy .joined i j) → T (boat k .joined i j)
   unfolding convoyGraph
   joined-each k h i j t =
-      all→in (λ c. cornerGraph tc tk c .joined i j) clearances t (clearanceOf clearances k) (in-get clearances k nan h)
+      all→in (λ c. cornerGraph tc tk c .joined i j) clearances t (boatClearance clearances k) (in-get clearances k nan h)
 
   joined-all : (k i j : ℕ) → T (boat k .joined i j) → T (convoy .joined i j)
   unfolding convoyGraph cornerGraph
@@ -101,8 +82,8 @@ module _ (tc tk : List ℕ) (clearances : List Float) where
 pub ways-together : WaysTogether
 unfolding WaysTogether
 ways-together tc tk clearances some start end w = (
-  λ y k h. carried (convoy tc tk clearances) (boat tc tk clearances k) (joined-each tc tk clearances k h) y
+  λ y k h. way-there (convoy tc tk clearances) (boat tc tk clearances k) (joined-each tc tk clearances k h) y
       (λ n i. for-each tc tk clearances k h n (way-wet (convoy tc tk clearances) y n i)),
-  λ each. carried (boat tc tk clearances 0) (convoy tc tk clearances) (joined-all tc tk clearances 0) (each 0 (omega arith))
+  λ each. way-there (boat tc tk clearances 0) (convoy tc tk clearances) (joined-all tc tk clearances 0) (each 0 (omega arith))
       (λ n i. for-all tc tk clearances some n (λ k h. way-wet (boat tc tk clearances k) (each k h) n i)),
 )

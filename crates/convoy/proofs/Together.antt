@@ -1,45 +1,23 @@
 -- The greatest clearance: wet at all clearances together is wet at one than which none is greater; and what the code finds is such a one.
-use Prim.Native.Nat.{ℕ, _≤_}
-use mathlib.Core.Path.{_≡_, refl, sym, ap, _∙_, subst}
+use Prim.Native.Nat.{_≤_}
+use mathlib.Core.Path.{_≡_, refl, sym, subst}
 use mathlib.Core.Logic.{_⊎_, inl, inr}
-use mathlib.Core.Bool.{Bool, true, false, not, _&&_, cond}
+use mathlib.Core.Bool.{Bool, true, false, not, cond}
 use mathlib.Core.List.{List, [], _∷_}
 use native.Mathlib.Omega.{arith}
 use lib.Dec.{T}
-use lib.Ieee.{Float, nan, inf, fin, lt}
+use lib.Ieee.{Float, lt}
 use lib.Ieee.Scale.{finite}
 use lib.ListN.{length}
 use Rattle.base.specs.Lists.{all}
-use Rattle.base.proofs.Tests.{and→, true→, false→, →false, either, tests-equal}
+use Rattle.base.proofs.Tests.{and→, false→, →false, tests-equal}
 use Rattle.base.proofs.Lists.{In, all→in, in→all}
-use Rattle.rounding.proofs.Order.{Lt, Le, lt→Lt, Lt→lt, not-lt→Le, le-lt, le-le}
+use Rattle.rounding.proofs.Order.{Le, lt→Lt, not-lt→Le, Le→not-lt, le-le, exceeds}
 use Rattle.rules.specs.Survey.{wet}
 use Rattle.rules.specs.Outputs.{inRange}
 use Rattle.rules.specs.declared.Corner.{Corner}
 use Rattle.places.proofs.Bound.{finite-in}
 use Rattle.convoy.specs.GreatestOf.{greaterOf, greatestAfter, greatestOf}
-
--- ---- wet at one clearance, and at those that are not above it
-
--- nothing is below what is not a number, and every finite number below one infinity
-nan-above : (x : Float) → lt x nan ≡ false
-unfolding lt
-nan-above nan = refl
-nan-above (inf s) = refl
-nan-above (fin s m e) = refl
-
-inf-above : (x : Float) (t : Bool) → T (finite x) → lt x (inf t) ≡ not t
-unfolding lt
-inf-above nan t h = absurd h
-inf-above (inf s) t h = absurd h
-inf-above (fin s m e) t h = refl
-
--- what exceeds c exceeds d, if c is not below d
-exceeds : (c d s : Float) → T (finite c) → T (finite d) → lt c d ≡ false → T (lt c s) → T (lt d s)
-exceeds c d nan p q h t = absurd (subst T (nan-above c) t)
-exceeds c d (inf u) p q h t = subst T (inf-above c u p ∙ sym (inf-above d u q)) t
-exceeds c d (fin s m e) p q h t =
-    Lt→lt d (fin s m e) q tt (le-lt d c (fin s m e) (not-lt→Le c d p q h) (lt→Lt c (fin s m e) p tt (true→ (lt c (fin s m e)) t)))
 
 -- ---- of some clearances in range, one than which none is greater
 
@@ -116,12 +94,6 @@ greatest-top (c ∷ ds) h r =
     below f d (inr i) = f .all-below d i
 
     not-greater : Found c ds (greatestAfter c ds) → In (greatestAfter c ds) (c ∷ ds) → (d : Float) → In d (c ∷ ds) → T (not (lt (greatestAfter c ds) d))
-    not-greater f one d i = go (either (lt (greatestAfter c ds) d))
-      where
-        go : T (lt (greatestAfter c ds) d) ⊎ (lt (greatestAfter c ds) d ≡ false) → T (not (lt (greatestAfter c ds) d))
-        go (inl t) =
-            let l = lt→Lt (greatestAfter c ds) d (finite-in (greatestAfter c ds) (all→in inRange (c ∷ ds) r (greatestAfter c ds) one))
-            (finite-in d (all→in inRange (c ∷ ds) r d i)) (true→ (lt (greatestAfter c ds) d) t) in
-            let m = below f d i in
-            absurd (omega arith)
-        go (inr e) = →false e
+    not-greater f one d i =
+        →false (Le→not-lt d (greatestAfter c ds) (finite-in d (all→in inRange (c ∷ ds) r d i))
+        (finite-in (greatestAfter c ds) (all→in inRange (c ∷ ds) r (greatestAfter c ds) one)) (below f d i))

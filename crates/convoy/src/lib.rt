@@ -1,4 +1,4 @@
-// The call that shows one way for a convoy: document 02, request 9. It is the way for one boat at the greatest of the clearances. Uses records, checks and ways.
+// The call that shows one way for a convoy: document 02, request 9. It is the way for one boat at the greatest clearance. Uses records, checks and ways.
 ghost use mathlib.Core.Path.{_≡_};
 ghost use mathlib.Core.Bool.{true};
 ghost use mathlib.Core.List.{[], _∷_, _++_};
@@ -7,7 +7,7 @@ ghost use lib.ListN.{length};
 ghost use Rattle.rules.specs.Outputs.{firstOf};
 ghost use Rattle.rules.specs.Resounding.{amended, checkOrder};
 ghost use Rattle.rules.specs.Ways.{passageAmended, Means};
-ghost use Rattle.rules.specs.Convoy.{convoyGraph, clearanceChecks, convoyAmended, clearanceOf, Greatest};
+ghost use Rattle.rules.specs.Convoy.{convoyGraph, clearanceChecks, convoyAmended, boatClearance, Greatest};
 ghost use Rattle.ways.specs.Shows.{Shows, shownBy};
 ghost use Rattle.convoy.specs.GreatestOf.{greaterOf, greatestOf};
 use rules::Passage;
@@ -67,14 +67,14 @@ fn refused(cells: &[u8], corners: &[u8], amendments: &[u8], number: u32) -> Pass
     } ⌝ }
 {
     Passage {
-        number: checks::check_first(cells, corners, amendments, number),
+        number: checks::check_before(cells, corners, amendments, number),
         corners: 0,
     }
 }
 
-// Finds one way for a convoy from one corner to another, each by its record number, that is wet at each of 1 to 16 clearances: document 02, request 9. For every
-// input, the result and both slices are those of the rules, and mean what the request says; where neither 21 nor 8 applies to the clearances, they are those of
-// one boat at the greatest of them.
+// Finds one way for a convoy from one corner to another, each by its record number, that is wet at each of 1 to 16 clearances: document 02, request 9. For
+// every input, the result and both slices are those of the rules, and mean what the request says; where neither 21 nor 8 applies to the clearances, they are
+// those of one boat at the greatest of them.
 pub fn find(
     cells: &[u8],
     corners: &[u8],
@@ -87,10 +87,10 @@ pub fn find(
 ) -> Passage
     ensures exact { λ r. ⌜ Shows (convoyAmended (now (cells .entry)) (now (corners .entry)) (now (amendments .entry)) (now (clearances .entry)) start end
         (now (way .entry)) (now (work .entry))) r (now (way .exit)) (now (work .exit)) ⌝ }
-    ensures means { λ r. ⌜ Means (convoyGraph (now (cells .entry)) (amended (now (corners .entry)) (now (amendments .entry))) (now (clearances .entry))) start end
-        (now (way .entry)) (now (work .entry)) (shownBy r (now (way .exit)) (now (work .exit))) ⌝ }
+    ensures means { λ r. ⌜ Means (convoyGraph (now (cells .entry)) (amended (now (corners .entry)) (now (amendments .entry))) (now (clearances .entry)))
+        start end (now (way .entry)) (now (work .entry)) (shownBy r (now (way .exit)) (now (work .exit))) ⌝ }
     ensures as_greatest { λ r. ⌜ ((k : ℕ) → Greatest (now (clearances .entry)) k
-        → Shows (passageAmended (now (cells .entry)) (now (corners .entry)) (now (amendments .entry)) (clearanceOf (now (clearances .entry)) k) start end
+        → Shows (passageAmended (now (cells .entry)) (now (corners .entry)) (now (amendments .entry)) (boatClearance (now (clearances .entry)) k) start end
         (now (way .entry)) (now (work .entry))) r (now (way .exit)) (now (work .exit))) ⌝ }
 {
     let number = refusal(clearances);

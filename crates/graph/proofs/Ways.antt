@@ -9,7 +9,8 @@ use lib.Dec.{T, eqb, eqb→eq, eqb-refl, ltb, lt→ltb, ltb→lt}
 use lib.ListN.{length, getD}
 use Rattle.base.specs.Lists.{first, count}
 use Rattle.base.proofs.Tests.{and→, →and, or→, or-left, or-right, below, eq→eqb, not-both}
-use Rattle.rules.specs.Ways.{Graph, Way, one, more, comesFirst, Best, fewestSteps, wayFrom, wayOf, BothWays, BestShown, OneBest}
+use Rattle.base.proofs.Lists.{In}
+use Rattle.rules.specs.Ways.{Graph, passable, Way, one, more, comesFirst, Best, fewestSteps, wayFrom, wayOf, BothWays, BestShown, OneBest}
 use Rattle.graph.proofs.Walks.{Walk, walk-first, turned, way-walk}
 use Rattle.graph.proofs.Rounds.{inside}
 use Rattle.graph.proofs.Steps.{Stepped, stepped}
@@ -180,3 +181,18 @@ one-best graph start end w v a b =
     go (inl e) y = e
     go (inr x) (inl e) = sym e
     go (inr x) (inr y) = absurd (not-both-lower w v x y)
+
+-- ---- a way in another graph
+
+-- every corner of a way is wet
+pub way-wet : (graph : Graph) {start end : ℕ} {w : List ℕ} → Way graph start end w → (k : ℕ) → In k w → T (passable graph k)
+way-wet graph (one t) k (inl e) = subst (λ n. T (passable graph n)) (sym e) t
+way-wet graph (one t) k (inr i) = absurd i
+way-wet graph (more t l y) k (inl e) = subst (λ n. T (passable graph n)) (sym e) t
+way-wet graph (more t l y) k (inr i) = way-wet graph y k i
+
+-- where its corners are wet in another graph too, and what is joined is joined there, it is a way there
+pub way-there : (graph other : Graph) → ((j k : ℕ) → T (graph .joined j k) → T (other .joined j k)) →
+    {start end : ℕ} {w : List ℕ} → Way graph start end w → ((k : ℕ) → In k w → T (passable other k)) → Way other start end w
+way-there graph other step (one {k = k} t) wet = one (wet k (inl refl))
+way-there graph other step (more {j = j} {k = k} t l y) wet = more (wet j (inl refl)) (step j k l) (way-there graph other step y (λ n i. wet n (inr i)))

@@ -3,7 +3,7 @@
 use Prim.Native.Nat.{ℕ, _+_, _*_, _≤_, _<_}
 use mathlib.Core.Path.{_≡_, refl, sym, ap₂, _∙_, subst}
 use mathlib.Core.Logic.{inl, inr, _⊎_}
-use mathlib.Core.Bool.{Bool, true, false, _&&_, _||_}
+use mathlib.Core.Bool.{Bool, true, false, not, _&&_, _||_}
 use native.Mathlib.Nat.{le-of-eq, eq-or-lt-of-le, mul-le-mul-right, mul-lt-mul-of-pos-right, lt-of-mul-lt-mul-right, le-of-mul-le-mul-right}
 use native.Mathlib.Omega.{arith}
 use lib.IntN.{pos}
@@ -12,7 +12,7 @@ use lib.Ieee.{Float, nan, inf, fin, Format, up, down, lt, eq, le, ofInt}
 use lib.Ieee.Fits.{and-i, and-l, and-r, eq→eqb}
 use lib.Ieee.Scale.{finite}
 use lib.Ieee.Positive.{den, den-pos}
-use borrow.Author.Tests.{leb-true, ltb-true, ltb-false}
+use borrow.Author.Tests.{leb-true, ltb-true, ltb-false, le-ltb}
 
 -- a finite float is (hi - lo) / den, and one of hi and lo is 0
 abbrev pub hi : Float → ℕ
@@ -140,6 +140,9 @@ module _ (x y : Float) (p : T (finite x)) (q : T (finite y)) where
   pub not-lt→Le : lt x y ≡ false → Le y x
   not-lt→Le e = ltb-false _ _ (sym (lt-is x y p q) ∙ e)
 
+  pub Le→not-lt : Le x y → lt y x ≡ false
+  Le→not-lt h = lt-is y x q p ∙ le-ltb _ _ h
+
   pub eq→Eq : T (eq x y) → Eq x y
   eq→Eq t = eqb→eq _ _ (subst T (eq-is x y p q) t)
 
@@ -154,6 +157,30 @@ le-lt x y z h k = lt-of-mul-lt-mul-right (den y) (omega (arith, mul-le-mul-right
 
 pub le-le : (x y z : Float) → Le x y → Le y z → Le x z
 le-le x y z h k = le-of-mul-le-mul-right {k = den y} (omega (arith, mul-le-mul-right (den z) h, mul-le-mul-right (den x) k)) (den-pos y)
+
+-- nothing is below what is not a number, and every finite float below one infinity
+lt-nan : (x : Float) → lt x nan ≡ false
+unfolding lt
+lt-nan nan = refl
+lt-nan (inf s) = refl
+lt-nan (fin s m e) = refl
+
+lt-inf : (x : Float) (t : Bool) → T (finite x) → lt x (inf t) ≡ not t
+unfolding lt
+lt-inf nan t h = absurd h
+lt-inf (inf s) t h = absurd h
+lt-inf (fin s m e) t h = refl
+
+-- what exceeds x exceeds y, if x is not below y: it may be an infinity, or not a number
+pub exceeds : (x y z : Float) → T (finite x) → T (finite y) → lt x y ≡ false → T (lt x z) → T (lt y z)
+exceeds x y nan p q h t = absurd (subst T (lt-nan x) t)
+exceeds x y (inf s) p q h t = subst T (lt-inf x s p ∙ sym (lt-inf y s q)) t
+exceeds x y (fin s m e) p q h t =
+    Lt→lt y (fin s m e) q tt (le-lt y x (fin s m e) (not-lt→Le x y p q h) (ltb-true _ _ (sym (lt-is x (fin s m e) p tt) ∙ true-of (lt x (fin s m e)) t)))
+  where
+    true-of : (b : Bool) → T b → b ≡ true
+    true-of true t = refl
+    true-of false t = absurd t
 
 -- what lies between two finite floats is finite
 pub finite-between : (x v y : Float) → T (finite x) → T (finite y) → T (le x v) → T (le v y) → T (finite v)

@@ -54,16 +54,16 @@ convoyAmended tc tk ta clearances start end way work =
 -- ---- what the request says of it
 
 -- the clearance of boat k, counted from 0
-abbrev pub clearanceOf : List Float → ℕ → Float
-clearanceOf clearances k = getD clearances k nan
+abbrev pub boatClearance : List Float → ℕ → Float
+boatClearance clearances k = getD clearances k nan
 
 -- A list of corners is a way for the convoy exactly if it is a way for each of its boats.
 unfoldable pub WaysTogether : Type 0
 unfolding cornerGraph convoyGraph
 WaysTogether = (tc tk : List ℕ) (clearances : List Float) → 1 ≤ length clearances → (start end : ℕ) (w : List ℕ)
     → (Way (convoyGraph tc tk clearances) start end w
-    → (k : ℕ) → k < length clearances → Way (cornerGraph tc tk (clearanceOf clearances k)) start end w)
-    × (((k : ℕ) → k < length clearances → Way (cornerGraph tc tk (clearanceOf clearances k)) start end w)
+    → (k : ℕ) → k < length clearances → Way (cornerGraph tc tk (boatClearance clearances k)) start end w)
+    × (((k : ℕ) → k < length clearances → Way (cornerGraph tc tk (boatClearance clearances k)) start end w)
     → Way (convoyGraph tc tk clearances) start end w)
 
 -- An answer means for the convoy what request 8 says of one boat's, refused ones too.
@@ -72,17 +72,17 @@ unfolding amended convoyGraph convoyAmended
 ConvoyMeans = (tc tk ta : List ℕ) (clearances : List Float) (start end : ℕ) (way work : List ℕ)
     → Means (convoyGraph tc (amended tk ta) clearances) start end way work (convoyAmended tc tk ta clearances start end way work)
 
--- boat k of a convoy that neither 21 nor 8 refuses has "the greatest of them": no other is greater, as IEEE 754 compares; of the two zeros neither is
+-- boat k of a convoy that neither 21 nor 8 refuses has "the greatest of them": no other is greater, as IEEE 754 compares; of +0 and -0 neither is
 pub record Greatest (clearances : List Float) (k : ℕ) : Type 0 where
   pub lawful : firstOf (clearanceChecks clearances) ≡ 0
   pub there : k < length clearances
-  pub none-greater : T (all (λ c. not (lt (clearanceOf clearances k) c)) clearances)
+  pub none-greater : T (all (λ c. not (lt (boatClearance clearances k) c)) clearances)
 
 -- "It must be the answer for one boat at the greatest of them, work slice included": what is returned, and both slices
 unfoldable pub AsGreatest : Type 0
 unfolding passageAmended convoyAmended
 AsGreatest = (tc tk ta : List ℕ) (clearances : List Float) (k : ℕ) → Greatest clearances k → (start end : ℕ) (way work : List ℕ)
-    → convoyAmended tc tk ta clearances start end way work ≡ passageAmended tc tk ta (clearanceOf clearances k) start end way work
+    → convoyAmended tc tk ta clearances start end way work ≡ passageAmended tc tk ta (boatClearance clearances k) start end way work
 
 -- Some boat has the greatest, where neither 21 nor 8 refuses the convoy;
 unfoldable pub SomeGreatest : Type 0
@@ -94,26 +94,26 @@ unfoldable pub EitherGreatest : Type 0
 unfolding passageAmended
 EitherGreatest = (tc tk ta : List ℕ) (clearances : List Float) (j k : ℕ) → Greatest clearances j → Greatest clearances k
     → (start end : ℕ) (way work : List ℕ)
-    → passageAmended tc tk ta (clearanceOf clearances j) start end way work ≡ passageAmended tc tk ta (clearanceOf clearances k) start end way work
+    → passageAmended tc tk ta (boatClearance clearances j) start end way work ≡ passageAmended tc tk ta (boatClearance clearances k) start end way work
 
--- So one boat is answered alike at either zero.
+-- So one boat is answered alike at +0 and at -0.
 unfoldable pub EitherZero : Type 0
 unfolding ofBits passageAmended
 EitherZero = (tc tk ta : List ℕ) (start end : ℕ) (way work : List ℕ)
-    → passageAmended tc tk ta (ofBits binary32 0) start end way work ≡ passageAmended tc tk ta (ofBits binary32 2147483648) start end way work
+    → passageAmended tc tk ta (ofBits binary32 0) start end way work ≡ passageAmended tc tk ta (ofBits binary32 0x8000_0000) start end way work
 
 -- "no way is reported only where that boat has none"
 unfoldable pub OnlyWhereNone : Type 0
 unfolding amended cornerGraph convoyAmended
 OnlyWhereNone = (tc tk ta : List ℕ) (clearances : List Float) (k : ℕ) → Greatest clearances k → (start end : ℕ) (way work : List ℕ)
     → convoyAmended tc tk ta clearances start end way work .result .number ≡ 20
-    → (w : List ℕ) → Way (cornerGraph tc (amended tk ta) (clearanceOf clearances k)) start end w → ⊥
+    → (w : List ℕ) → Way (cornerGraph tc (amended tk ta) (boatClearance clearances k)) start end w → ⊥
 
 -- all checks before 20, in their order
 unfoldable pub convoyOrder : List ℕ → List ℕ → List ℕ → List Float → ℕ → ℕ → ℕ → ℕ → List (ℕ × Bool)
-unfolding checkOrder clearanceChecks
+unfolding convoyChecks amended
 convoyOrder tc tk ta clearances start end wayLength workLength =
-    checkOrder tc tk ta ++ clearanceChecks clearances ++ askedChecks (recordCount (amended tk ta)) start end wayLength workLength
+    convoyChecks tc tk ta clearances ++ askedChecks (recordCount (amended tk ta)) start end wayLength workLength
 
 -- the number is that of the first check that applies: 1 to 6, 14, 15, 7, 21, 8, 18, 19, 20
 unfoldable pub ConvoyInOrder : Type 0

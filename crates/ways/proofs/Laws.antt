@@ -193,7 +193,7 @@ passage-means tc tk ta clearance start end way work = go (eqb (firstOf (amendmen
 -- ---- the order of the checks
 
 -- of checks that find nothing to refuse, those that follow decide
-skip : (ts us : List (ℕ × Bool)) → T (numbered ts) → firstOf ts ≡ 0 → firstOf (ts ++ us) ≡ firstOf us
+pub skip : (ts us : List (ℕ × Bool)) → T (numbered ts) → firstOf ts ≡ 0 → firstOf (ts ++ us) ≡ firstOf us
 skip ts us u z = first-append ts us u ∙ ap (λ (n : ℕ). cond (eqb n 0) (firstOf us) n) z
 
 pub passage-in-order : PassageInOrder

@@ -1,7 +1,6 @@
 -- `convoy::find` meets its contract: refused by 21 or 8, or the way for one boat at the greatest clearance.
 use mathlib.Core.Path.{sym, _∙_}
-use Rattle.ways.proofs.Call.{Question}
-use Rattle.convoy.proofs.Calls.{lawful-clearances}
+use Rattle.convoy.proofs.Calls.{Call, lawful-clearances}
 use Rattle.convoy.proofs.Laws.{refuses, finds}
 use borrow.Author.Needs.{needs}
 use Rattle.convoy.proofs.find.Statement.{statement}
@@ -11,8 +10,14 @@ use Rattle.convoy.proofs.find.Tie as tie
 abbrev begin : tie.After-refusal → tie.Start
 begin r = r .before .before .before .before .before .before .before
 
-abbrev asked : tie.Start → Question
-asked s = record { start = s .args .start; end = s .args .end; way = s .args .way .now; work = s .args .work .now }
+abbrev call : tie.Start → Call
+call s = record {
+  cells = s .args .cells .now;
+  corners = s .args .corners .now;
+  amendments = s .args .amendments .now;
+  clearances = s .args .clearances .now;
+  question = record { start = s .args .start; end = s .args .end; way = s .args .way .now; work = s .args .work .now };
+}
 
 refusal-requires : tie.Need-refusal-requires
 refusal-requires c κs = search needs
@@ -24,9 +29,7 @@ returns : tie.Need-returns
 returns c =
     let t = c .before in
     let r = t .before in
-    let s = begin r in
-    refuses (s .args .cells .now) (s .args .corners .now) (s .args .amendments .now) (s .args .clearances .now) (asked s)
-    (r .refusal .result) (r .refusal .ensures) (t .if1 .taken) _ (c .refused .ensures)
+    refuses (call (begin r)) (r .refusal .result) (r .refusal .ensures) (t .if1 .taken) _ (c .refused .ensures)
 
 greatest-requires : tie.Need-greatest-requires
 greatest-requires c κs = lawful-clearances _ (sym (c .before .refusal .ensures) ∙ c .if1 .left) .0
@@ -46,9 +49,7 @@ returns-2 c =
     let g = f .before .before .before in
     let e = g .before in
     let r = e .before in
-    let s = begin r in
-    finds (s .args .cells .now) (s .args .corners .now) (s .args .amendments .now) (s .args .clearances .now) (asked s)
-    (sym (r .refusal .ensures) ∙ e .if1 .left) (g .greatest .result) (g .greatest .ensures) (f .find .ensures .0)
+    finds (call (begin r)) (sym (r .refusal .ensures) ∙ e .if1 .left) (g .greatest .result) (g .greatest .ensures) (f .find .ensures .0)
 
 pub find-spec : {M : Type 1} → statement M
 find-spec =
