@@ -8,7 +8,7 @@ use mathlib.Core.List.{List, [], _∷_, _++_, append-assoc}
 use native.Mathlib.Omega.{arith}
 use lib.Dec.{T, eqb, eqb→eq}
 use lib.ListN.{length, getD}
-use lib.Ieee.{Float, nan}
+use lib.Ieee.{Float}
 use Rattle.base.specs.Lists.{any, all, position}
 use Rattle.base.proofs.Tests.{→true, true→, false→}
 use Rattle.base.proofs.Lists.{position-of}
