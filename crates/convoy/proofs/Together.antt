@@ -40,38 +40,42 @@ module _ {clearances : List Float} {c : Float} (top : Top clearances c) where
 
 -- ---- what the code finds
 
--- the greatest of c and some others is one of them, and none of them is above it
-record Found (c : Float) (ds : List Float) (g : Float) : Type 0 where
-  first-below : Le c g
-  all-below : (d : Float) → In d ds → Le d g
-  one-of : (g ≡ c) ⊎ In g ds
+-- one of some clearances, and none of them is above it
+record Found (cs : List Float) (g : Float) : Type 0 where
+  one : In g cs
+  all-below : (x : Float) → In x cs → Le x g
 
--- one more, which is above the first or is not
-raised : (c d g : Float) (ds : List Float) → Le c d → Found d ds g → Found c (d ∷ ds) g
-raised c d g ds l f = record { first-below = le-le c d g l (f .first-below); all-below = all-below; one-of = inr (f .one-of) }
+-- one more of them, which is above the first or is not
+raised : (c d g : Float) (ds : List Float) → Le c d → Found (d ∷ ds) g → Found (c ∷ d ∷ ds) g
+raised c d g ds l f = record { one = inr (f .one); all-below = all-below }
   where
-    all-below : (x : Float) → In x (d ∷ ds) → Le x g
-    all-below x (inl i) = subst (λ (z : Float). Le z g) (sym i) (f .first-below)
+    all-below : (x : Float) → In x (c ∷ d ∷ ds) → Le x g
+    all-below x (inl i) = subst (λ (z : Float). Le z g) (sym i) (le-le c d g l (f .all-below d (inl refl)))
     all-below x (inr i) = f .all-below x i
 
-kept : (c d g : Float) (ds : List Float) → Le d c → Found c ds g → Found c (d ∷ ds) g
-kept c d g ds l f = record { first-below = f .first-below; all-below = all-below; one-of = one-of (f .one-of) }
+kept : (c d g : Float) (ds : List Float) → Le d c → Found (c ∷ ds) g → Found (c ∷ d ∷ ds) g
+kept c d g ds l f = record { one = one (f .one); all-below = all-below }
   where
-    all-below : (x : Float) → In x (d ∷ ds) → Le x g
-    all-below x (inl i) = subst (λ (z : Float). Le z g) (sym i) (le-le d c g l (f .first-below))
-    all-below x (inr i) = f .all-below x i
+    one : In g (c ∷ ds) → In g (c ∷ d ∷ ds)
+    one (inl e) = inl e
+    one (inr i) = inr (inr i)
 
-    one-of : (g ≡ c) ⊎ In g ds → (g ≡ c) ⊎ In g (d ∷ ds)
-    one-of (inl e) = inl e
-    one-of (inr i) = inr (inr i)
+    all-below : (x : Float) → In x (c ∷ d ∷ ds) → Le x g
+    all-below x (inl i) = f .all-below x (inl i)
+    all-below x (inr (inl i)) = subst (λ (z : Float). Le z g) (sym i) (le-le d c g l (f .all-below c (inl refl)))
+    all-below x (inr (inr i)) = f .all-below x (inr i)
 
-found : (c : Float) (ds : List Float) → T (finite c) → T (all inRange ds) → Found c ds (greatestAfter c ds)
+found : (c : Float) (ds : List Float) → T (finite c) → T (all inRange ds) → Found (c ∷ ds) (greatestAfter c ds)
 unfolding greatestAfter greaterOf
-found c [] p r = record { first-below = omega arith; all-below = λ d i. absurd i; one-of = inl refl }
+found c [] p r = record { one = inl refl; all-below = only }
+  where
+    only : (x : Float) → In x (c ∷ []) → Le x c
+    only x (inl i) = subst (λ (z : Float). Le z c) (sym i) (omega arith)
+    only x (inr i) = absurd i
 found c (d ∷ ds) p r = let (x, y) = and→ (inRange d) (all inRange ds) r in go (lt c d) refl (finite-in d x) (λ b q. found b ds q y)
   where
-    go : (b : Bool) → lt c d ≡ b → T (finite d) → ((x : Float) → T (finite x) → Found x ds (greatestAfter x ds)) →
-        Found c (d ∷ ds) (greatestAfter (cond b d c) ds)
+    go : (b : Bool) → lt c d ≡ b → T (finite d) → ((x : Float) → T (finite x) → Found (x ∷ ds) (greatestAfter x ds)) →
+        Found (c ∷ d ∷ ds) (greatestAfter (cond b d c) ds)
     go true e q rest = raised c d (greatestAfter d ds) ds (let l = lt→Lt c d p q e in omega arith) (rest d q)
     go false e q rest = kept c d (greatestAfter c ds) ds (not-lt→Le c d p q e) (rest c p)
 
@@ -82,18 +86,11 @@ greatest-top [] h r = absurd (omega arith)
 greatest-top (c ∷ ds) h r =
     let (x, y) = and→ (inRange c) (all inRange ds) r in
     let f = found c ds (finite-in c x) y in
-    let one = among (f .one-of) in
-    record { ranged = r; one = one; none-greater = in→all (λ d. not (lt (greatestAfter c ds) d)) (c ∷ ds) (not-greater f one) }
-  where
-    among : (greatestAfter c ds ≡ c) ⊎ In (greatestAfter c ds) ds → In (greatestAfter c ds) (c ∷ ds)
-    among (inl e) = inl e
-    among (inr i) = inr i
-
-    below : Found c ds (greatestAfter c ds) → (d : Float) → In d (c ∷ ds) → Le d (greatestAfter c ds)
-    below f d (inl i) = subst (λ (z : Float). Le z (greatestAfter c ds)) (sym i) (f .first-below)
-    below f d (inr i) = f .all-below d i
-
-    not-greater : Found c ds (greatestAfter c ds) → In (greatestAfter c ds) (c ∷ ds) → (d : Float) → In d (c ∷ ds) → T (not (lt (greatestAfter c ds) d))
-    not-greater f one d i =
-        →false (Le→not-lt d (greatestAfter c ds) (finite-in d (all→in inRange (c ∷ ds) r d i))
-        (finite-in (greatestAfter c ds) (all→in inRange (c ∷ ds) r (greatestAfter c ds) one)) (below f d i))
+    let finite-one : (d : Float) → In d (c ∷ ds) → T (finite d) = λ d i. finite-in d (all→in inRange (c ∷ ds) r d i) in
+    let g = greatestAfter c ds in
+    record {
+      ranged = r;
+      one = f .one;
+      none-greater =
+          in→all (λ d. not (lt g d)) (c ∷ ds) (λ d i. →false (Le→not-lt d g (finite-one d i) (finite-one g (f .one)) (f .all-below d i)));
+    }
