@@ -23,6 +23,7 @@ use Rattle.calendar.specs.declared.Reading.{Reading}
 use Rattle.calendar.specs.declared.Reading.the-variants.{Refused, Clearance}
 
 module _ (tc tk ta : List ℕ) where
+  -- of the checks of the survey by itself, the first that applies
   abbrev number : ℕ
   number = surveyNumber tc tk ta
 

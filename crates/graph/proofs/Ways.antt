@@ -1,4 +1,4 @@
--- The way shown is the best, and the only one.
+-- The way shown is the best, and the only one; and which ways of one graph are ways of another.
 use Prim.Native.Nat.{ℕ, zero, suc, pred, _+_, _≤_, _<_}
 use mathlib.Core.Path.{_≡_, refl, sym, ap, _∙_, subst}
 use mathlib.Core.Logic.{_⊎_, inl, inr}
