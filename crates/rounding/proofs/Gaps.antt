@@ -112,3 +112,5 @@ rounded_positive f n d K D N u t fit =
 pub num_pos : (y : Float) → T (positive y) → 0 < num y
 num_pos (fin true m e) p = absurd p
 num_pos (fin false m e) p = mul-pos (ltb→lt 0 m p) (up_pos e)
+num_pos nan p = elim p [ ]
+num_pos (inf _) p = elim p [ ]

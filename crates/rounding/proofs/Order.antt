@@ -74,6 +74,12 @@ lt-is (fin true m e) (fin true n d) p q =
     let a = m * up e * down d in
     let b = n * up d * down e in
     ltb-same b a (0 * down d + b) (0 * down e + a) (λ h. omega arith) (λ h. omega arith)
+lt-is nan y p q = elim p [ ]
+lt-is (inf _) y p q = elim p [ ]
+lt-is (fin false m e) nan p q = elim q [ ]
+lt-is (fin false m e) (inf _) p q = elim q [ ]
+lt-is (fin true m e) nan p q = elim q [ ]
+lt-is (fin true m e) (inf _) p q = elim q [ ]
 
 -- a test z that says a ≡ b
 eqb_is : (z : Bool) (a b : ℕ) → (T z → a ≡ b) → (a ≡ b → T z) → z ≡ eqb a b
@@ -109,6 +115,12 @@ eq_is (fin true m e) (fin true n d) p q =
     let b = n * up d * down e in
     eqb_is (eqb a b && true) (0 * down d + b) (0 * down e + a)
     (λ t. omega (arith, eqb→eq a b (and_l (eqb a b) true t))) (λ h. and_i (eqb a b) true (omega (arith, eqb_of)) tt)
+eq_is nan y p q = elim p [ ]
+eq_is (inf _) y p q = elim p [ ]
+eq_is (fin false m e) nan p q = elim q [ ]
+eq_is (fin false m e) (inf _) p q = elim q [ ]
+eq_is (fin true m e) nan p q = elim q [ ]
+eq_is (fin true m e) (inf _) p q = elim q [ ]
 
 le_is : (x y : Float) → T (finite x) → T (finite y)
     → le x y ≡ leb (hi x * den y + lo y * den x) (hi y * den x + lo x * den y)
@@ -121,6 +133,7 @@ le_is x y p q = ap₂ (λ a b. a || b) (lt-is x y p q) (eq_is x y p q) ∙ lt_or
       where
         right : ⊥ ⊎ T y → T y
         right (inr t) = t
+        right (inl x6) = elim x6 [ ]
 
     lt_or_eq : (a b : ℕ) → (ltb a b || eqb a b) ≡ leb a b
     lt_or_eq a b =
@@ -189,3 +202,13 @@ finite-between (fin s m e) nan (fin u n d) p q a b = absurd a
 finite-between (fin s m e) (inf true) (fin u n d) p q a b = absurd a
 finite-between (fin s m e) (inf false) (fin u n d) p q a b = absurd b
 finite-between (fin s m e) (fin t k c) (fin u n d) p q a b = tt
+finite-between nan v y p q a b = elim p [ ]
+finite-between (inf _) v y p q a b = elim p [ ]
+finite-between (fin s m e) nan nan p q a b = elim q [ ]
+finite-between (fin s m e) nan (inf _) p q a b = elim q [ ]
+finite-between (fin s m e) (inf false) nan p q a b = elim q [ ]
+finite-between (fin s m e) (inf false) (inf _) p q a b = elim q [ ]
+finite-between (fin s m e) (inf true) nan p q a b = elim q [ ]
+finite-between (fin s m e) (inf true) (inf _) p q a b = elim q [ ]
+finite-between (fin s m e) (fin t k c) nan p q a b = elim q [ ]
+finite-between (fin s m e) (fin t k c) (inf _) p q a b = elim q [ ]

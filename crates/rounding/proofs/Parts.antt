@@ -9,7 +9,7 @@ use native.Mathlib.Omega.{arith}
 use lib.Dec.{T}
 use lib.IntN.{pos}
 use lib.Pow.{pow_pos}
-use lib.Ieee.{Float, fin, Format, prec, round, add, sub, mul, div, eq, le, of_int, fits}
+use lib.Ieee.{Float, fin, Format, prec, round, add, sub, mul, div, eq, le, of_int, fits, inf, nan}
 use lib.Ieee.Bits.{is_true}
 use lib.Ieee.Order.{round_mono}
 use lib.Ieee.Scale.{finite, round_same}
@@ -108,6 +108,8 @@ between_at_most f k x fit (a, b) =
     one_sided : (r : Float) → T (finite r) → lo r ≤ hi r → lo r ≡ 0
     one_sided (fin true m e) p h = omega arith
     one_sided (fin false m e) p h = refl
+    one_sided nan p h = elim p [ ]
+    one_sided (inf _) p h = elim p [ ]
 
 pub at_most-zero : (f : Format) (x : Float) → AtMost x 0 1 → T (eq x (of_int f (pos 0)))
 at_most-zero f x p =

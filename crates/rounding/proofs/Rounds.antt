@@ -57,6 +57,8 @@ round_bare f n d = rw (round_is f false n d) (units_bare _ _)
   where
     value_bare : (x : Float) (a c : ℕ) → HasValue x false a c → Bare x
     value_bare (fin s m e) a c h = h.0
+    value_bare nan a c h = elim h [ ]
+    value_bare (inf _) a c h = elim h [ ]
 
     pick : (q k : ℕ) (b : Bool) → Bare (cond b (odd (suc (prec f)) false q k (low f)) (inf false))
     pick q k true = value_bare (odd (suc (prec f)) false q k (low f)) (q * 2 ^ k) (2 ^ low f) (odd_sign (suc (prec f)) false q k (low f))
@@ -107,6 +109,10 @@ sub_bare f (fin false m e) (fin true n d) p s q h =
     let a = m * up e * down d in
     let b = n * up d * down e in
     (a + b, omega arith, subtracted f false m e true n d ∙ sum_like f false a b (down e * down d))
+sub_bare f nan y p s q h = elim p [ ]
+sub_bare f (inf _) y p s q h = elim p [ ]
+sub_bare f (fin false m e) nan p s q h = elim q [ ]
+sub_bare f (fin false m e) (inf _) p s q h = elim q [ ]
 
 pub sub-rounds : (f : Format) (x y : Float) → T (finite x) → T (finite y) → Le y x → (g : ℕ) × Gap x y g × Rounds f (sub f x y) g (den x * den y)
 sub-rounds f (fin false m e) y p q h =
@@ -124,6 +130,10 @@ sub-rounds f (fin true m e) (fin true n d) p q h =
     let a = m * up e * down d in
     let b = n * up d * down e in
     (b - a, omega arith, plain f _ (b - a) (down e * down d) (subtracted f true m e true n d ∙ sum-neg f a b (down e * down d) (omega arith)))
+sub-rounds f nan y p q h = elim p [ ]
+sub-rounds f (inf _) y p q h = elim p [ ]
+sub-rounds f (fin true m e) nan p q h = elim q [ ]
+sub-rounds f (fin true m e) (inf _) p q h = elim q [ ]
 
 -- to a number without a sign, y not below zero: `lo y ≡ 0`
 pub add_bare : (f : Format) (x y : Float) → T (finite x) → Bare x → T (finite y) → lo y ≡ 0
@@ -136,6 +146,10 @@ add_bare f (fin false m e) (fin true n d) p s q k =
     let z : b ≡ 0 = rw k (omega arith) in
     let same : a - b ≡ a + 0 * down e = omega arith in
     added f false m e true n d ∙ sum_unlike f a b (down e * down d) (omega arith) ∙ ap (λ (i : ℕ). round f false i (down e * down d)) same
+add_bare f nan y p s q k = elim p [ ]
+add_bare f (inf _) y p s q k = elim p [ ]
+add_bare f (fin false m e) nan p s q k = elim q [ ]
+add_bare f (fin false m e) (inf _) p s q k = elim q [ ]
 
 -- the other operations, at operands that are not below zero
 pub mul-rounds : (f : Format) (x y : Float) → T (finite x) → T (finite y) → lo x ≡ 0 → lo y ≡ 0 → Rounds f (mul f x y) (hi x * hi y) (den x * den y)
@@ -147,6 +161,12 @@ mul-rounds f (fin true m e) (fin false n d) p q h k =
     null f true _ (m * up e * (n * up d)) (0 * (n * up d)) (down e * down d) (rw h (omega arith)) (omega arith) refl
 mul-rounds f (fin true m e) (fin true n d) p q h k =
     null f false _ (m * up e * (n * up d)) (0 * 0) (down e * down d) (rw h (omega arith)) (omega arith) refl
+mul-rounds f nan y p q h k = elim p [ ]
+mul-rounds f (inf _) y p q h k = elim p [ ]
+mul-rounds f (fin false m e) nan p q h k = elim q [ ]
+mul-rounds f (fin false m e) (inf _) p q h k = elim q [ ]
+mul-rounds f (fin true m e) nan p q h k = elim q [ ]
+mul-rounds f (fin true m e) (inf _) p q h k = elim q [ ]
 
 not-zero : {A : Type 0} (n : ℕ) (a b : A) → 0 < n → cond (eqb n 0) a b ≡ b
 not-zero n a b h = rw (ne_eqb n 0 (λ e. lt_irrefl 0 (subst (λ (k : ℕ). 0 < k) e h)))
@@ -157,6 +177,10 @@ div-rounds f (fin false m e) (fin false n d) p h q = plain f _ (m * up e * down 
 div-rounds f (fin true m e) (fin false n d) p h q =
     null f true _ (m * up e * down d) (0 * down d) (n * up d * down e) (rw h (omega arith)) (omega arith) (not-zero n _ _ (ltb→lt 0 n q))
 div-rounds f x (fin true n d) p h q = absurd q
+div-rounds f x nan p h q = elim q [ ]
+div-rounds f x (inf _) p h q = elim q [ ]
+div-rounds f nan (fin false n d) p h q = elim p [ ]
+div-rounds f (inf _) (fin false n d) p h q = elim p [ ]
 
 -- ---- bounds through one rounding
 
@@ -175,6 +199,8 @@ whole_is f n h = go (round f false n 1) (round_whole f false n h)
     go : (x : Float) → HasValue x false n 1 → Whole x n
     go (fin true m e) v = absurd (true≢false v.0)
     go (fin false m e) v = (tt, refl, sym (mul-one (m * up e)) ∙ v.1)
+    go nan v = elim v [ ]
+    go (inf _) v = elim v [ ]
 
 pub whole_bare : (f : Format) (n : ℕ) → Bare (of_int f (pos n))
 unfolding of_int
@@ -192,12 +218,19 @@ under (fin false m e) (fin true n d) p q b v t = absurd (true≢false v.0)
 under (fin false m e) (fin false n d) p q b v t =
     let h = le→Le (fin false m e) (fin false n d) tt tt (is_true _ t) in
     (tt, refl, cross (m * up e) (down e) (n * up d) (down d) p q (down_pos d) v.1 (omega arith))
+under nan y p q b v t = elim b [ ]
+under (inf false) nan p q b v t = elim v [ ]
+under (inf false) (inf _) p q b v t = elim v [ ]
+under (fin false m e) nan p q b v t = elim v [ ]
+under (fin false m e) (inf _) p q b v t = elim v [ ]
 
 -- a zero that is rounded with the sign
 signed_zero : (x : Float) (c p q : ℕ) → 0 < c → HasValue x true 0 c → AtMost x p q
 signed_zero (fin false m e) c p q C v = absurd (false≢true v.0)
 signed_zero (fin true m e) c p q C v =
     (tt, eq_of_mul-eq-mul_right c C (m * up e) 0 (v.1 ∙ zero-mul (down e) ∙ sym (zero-mul c)), omega arith)
+signed_zero nan c p q C v = elim v [ ]
+signed_zero (inf _) c p q C v = elim v [ ]
 
 -- y is the bound, a value of the format
 pub rounded_at_most : (f : Format) (r : Float) (n d : ℕ) (y : Float) (p q : ℕ) → 0 < d → Rounds f r n d → HasValue y false p q

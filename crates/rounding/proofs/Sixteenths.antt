@@ -8,7 +8,7 @@ use native.Mathlib.Omega.{arith}
 use lib.IntN.{ℤ, pos, negsuc}
 use lib.Dec.{T, lit≤, lit<}
 use lib.Pow.{pow-add}
-use lib.Ieee.{Float, fin, binary32, up, down, round, mul, lt, to_unsigned, fits, of_bits}
+use lib.Ieee.{Float, fin, binary32, up, down, round, mul, lt, to_unsigned, fits, of_bits, inf, nan}
 use lib.Ieee.Digits.{back}
 use lib.Ieee.Fits.{down_pos}
 use lib.Ieee.Exact.{HasValue, round_exact}
@@ -56,6 +56,10 @@ exact_at (fin false m e) p c h z =
     go : (r : Float) → HasValue r false (m * up e * (1 * 2 ^ 4)) (down e * 1) → hi r * down e ≡ 16 * (m * up e) * den r
     go (fin true n d) v = absurd (true≢false v.0)
     go (fin false n d) v = omega (arith, v.1)
+    go nan v = elim v [ ]
+    go (inf _) v = elim v [ ]
+exact_at nan p c h z = elim p [ ]
+exact_at (inf _) p c h z = elim p [ ]
 
 -- the whole part of a value a / b
 cut : (r : Float) (a b : ℕ) → T (finite r) → 0 < b → hi r * b ≡ a * den r → hi r ≤ 16384 * den r → to_unsigned 64 r ≡ a / b
@@ -68,11 +72,15 @@ cut (fin false n d) a b p B h k =
   where
     small : (i : ℕ) → i < 16385 → min i (2 ^ 64 - 1) ≡ i
     small i h = omega arith
+cut nan a b p B h k = elim p [ ]
+cut (inf _) a b p B h k = elim p [ ]
 
 -- of what is not below zero, the value is num / den
 value : (x : Float) → T (finite x) → lo x ≡ 0 → hi x ≡ num x
 value (fin true m e) p h = sym h
 value (fin false m e) p h = refl
+value nan p h = elim p [ ]
+value (inf _) p h = elim p [ ]
 
 pub whole-most : (x : Float) → Between binary32 0 1024 x → 16 * num x / den x ≤ 16384
 whole-most x between =
