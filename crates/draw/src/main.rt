@@ -1,5 +1,6 @@
 // The drawing program: reads the files `cells`, `corners`, `amendments` and `clearance` of its working directory, draws with room for 2,048 points and 4,096
 // triangles, and prints the listing. A missing file counts as empty. Uses drawing, records and text.
+#![tactic(auto)]
 ghost use Rattle.std.specs.Prelude.{◌≡◌, ◌≤◌, length};
 ghost use Rattle.text.specs.Writing.{Wrote};
 ghost use Rattle.draw.specs.Printed.{clearance_of, printed};

@@ -1,6 +1,7 @@
 // The drawing call: the checks of the tables, the amendments, the other checks, 12 after 8, the tables of edges and points, all triangles, the refusals of
 // slices that are too short, the points. The slices are written only where both have room. Uses checks, amendments, edges, twins, across, crossings and
 // triangles.
+#![tactic(auto)]
 ghost use Rattle.std.specs.Prelude.{◌≡◌, true, [], ◌∷◌, ◌*◌, ◌≤◌, ltb, length};
 ghost use Rattle.rules.specs.Outputs.{first_of, table_checks, accepted, drawing_checks, drawable, draw};
 ghost use Rattle.rules.specs.Resounding.{amended, draw_amended};

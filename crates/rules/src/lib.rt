@@ -1,6 +1,7 @@
 // Document 01, and the requests of document 02 that are in, as definitions: what people must believe, in specs/, each file headed by its section. Here, the
 // types that the calls take and return.
 // Uses base. proofs/ has the surveys that document 01 wants proved, and examples of the requests.
+#![tactic(auto)]
 
 // A corner of the survey, taken up with its place and sounding together.
 #[derive(Drop)]
