@@ -12,7 +12,7 @@ ghost use Rattle.calendar.specs.ReadingAt.{reading_at};
 use rules::{Drawn, Period};
 
 // What a calendar reads at a minute: a refusal's number, 16 or 17, or the clearance in force.
-#[derive(Drop)]
+#[derive(Clone, Copy)]
 enum Reading {
     Refused(u32),
     Clearance(f32),

@@ -7,7 +7,7 @@ ghost use Rattle.loops.specs.Loops.{Loaded, Draws};
 ghost use Rattle.loops.specs.Sweep.{on_of, Follows, clear_at, Stepped, Lowest, progress, Ready, Passes};
 
 // The state of a walk round a loop: the point at hand and the one before it.
-#[derive(Drop)]
+#[derive(Clone, Copy)]
 pub struct Walk {
     pub before: u16,
     pub at: u16,

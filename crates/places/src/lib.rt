@@ -10,7 +10,7 @@ ghost use Rattle.places.specs.Places.{as_spot, spot_between, with_spot};
 use rules::Corner;
 
 // The place of a point in three floats.
-#[derive(Drop)]
+#[derive(Clone, Copy)]
 pub struct Point {
     pub x: f32,
     pub y: f32,

@@ -10,7 +10,7 @@ ghost use Rattle.reader.specs.Ordered.{Ordered};
 pub mod hints;
 
 // The lent bytes of a corner table and the number of its records.
-#[derive(Drop)]
+#[derive(Clone, Copy)]
 pub struct Reader<'a> {
     pub bytes: &'a [u8],
     pub count: usize,

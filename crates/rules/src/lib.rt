@@ -4,7 +4,7 @@
 #![tactic(auto)]
 
 // A corner of the survey, taken up with its place and sounding together.
-#[derive(Drop)]
+#[derive(Clone, Copy)]
 pub struct Corner {
     pub x: u16,
     pub y: u16,
@@ -13,14 +13,14 @@ pub struct Corner {
 }
 
 // A leaf with its eight corners held side by side, in the order of a cell's children.
-#[derive(Drop)]
+#[derive(Clone, Copy)]
 pub struct Leaf {
     pub corners: [Corner; 8],
 }
 
 // An edge to ask about: its axis (0 to 2), its lower end and its length.
 #[repr(C)]
-#[derive(Drop)]
+#[derive(Clone, Copy)]
 pub struct AskedEdge {
     pub axis: u32,
     pub x: u32,
@@ -30,21 +30,21 @@ pub struct AskedEdge {
 }
 
 // An end of an edge. Document 02, request 1.
-#[derive(Drop)]
+#[derive(Clone, Copy)]
 pub enum End {
     Lower,
     Upper,
 }
 
 // An edge as the enquiry sees it: even, or crossing with the point's number, its place in three floats and the wet end.
-#[derive(Drop)]
+#[derive(Clone, Copy)]
 pub enum Edge {
     Even,
     Crossing(u32, f32, f32, f32, End),
 }
 
 // What the edge enquiry answers: a refusal's number alone, or the edge.
-#[derive(Drop)]
+#[derive(Clone, Copy)]
 pub enum Answer {
     Refused(u32),
     Found(Edge),
@@ -52,7 +52,7 @@ pub enum Answer {
 
 // What drawing returns: a number (0 if drawn) and both counts.
 #[repr(C)]
-#[derive(Drop)]
+#[derive(Clone, Copy)]
 pub struct Drawn {
     pub number: u32,
     pub points: u32,
@@ -61,7 +61,7 @@ pub struct Drawn {
 
 // What the call for the volume returns: a number (0 if drawn), both counts, and six times the volume in cubic sixteenths. Document 02, request 4.
 #[repr(C)]
-#[derive(Drop)]
+#[derive(Clone, Copy)]
 pub struct Water {
     pub number: u32,
     pub points: u32,
@@ -70,7 +70,7 @@ pub struct Water {
 }
 
 // A record of a calendar: the minutes of the year for which it holds, and the clearance then. Document 02, request 7.
-#[derive(Drop)]
+#[derive(Clone, Copy)]
 pub struct Period {
     pub from: u32,
     pub until: u32,
@@ -79,7 +79,7 @@ pub struct Period {
 
 // What a call that shows a way returns: a number (0 if shown) and the count of the way's corners. Document 02, request 8.
 #[repr(C)]
-#[derive(Drop)]
+#[derive(Clone, Copy)]
 pub struct Passage {
     pub number: u32,
     pub corners: u32,

@@ -28,7 +28,7 @@ fn step_back(key: u64, axis: u32, level: u8) -> u64
 }
 
 // The edge above an edge: the records at which it starts and ends, and at which its other half starts. Where no cell has it, `start` is the number of records.
-#[derive(Drop)]
+#[derive(Clone, Copy)]
 struct Above {
     start: usize,
     end: usize,

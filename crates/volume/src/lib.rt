@@ -23,7 +23,7 @@ fn beyond(reference: Reference) -> bool
 }
 
 // What is asked besides the survey: at which clearance it is drawn, and from where the volume is reckoned.
-#[derive(Drop)]
+#[derive(Clone, Copy)]
 struct Asked {
     clearance: f32,
     reference: Reference,

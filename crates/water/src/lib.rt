@@ -8,7 +8,7 @@ ghost use Rattle.water.specs.Corners.{reference_place, Near, part, taken, Placed
 
 // The point of the box, in whole units, that corners are taken from.
 #[repr(C)]
-#[derive(Drop)]
+#[derive(Clone, Copy)]
 pub struct Reference {
     pub x: u32,
     pub y: u32,
@@ -16,7 +16,7 @@ pub struct Reference {
 }
 
 // A corner taken from the reference, in sixteenths.
-#[derive(Drop)]
+#[derive(Clone, Copy)]
 struct Offset {
     x: i64,
     y: i64,

@@ -72,7 +72,7 @@ fn fill_links(
 }
 
 // What is asked besides the survey: at which clearance, from which corner and to which.
-#[derive(Drop)]
+#[derive(Clone, Copy)]
 struct Asked {
     clearance: f32,
     start: u32,
