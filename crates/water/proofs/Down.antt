@@ -24,6 +24,9 @@ in_box r t = go (ltb 1024 r.x) (ltb 1024 r.y) (ltb 1024 r.z) (nltb→le 1024 r.x
     go false false false p q r t X = p tt
     go false false false p q r t Y = q tt
     go false false false p q r t Z = r tt
+    go false false mathlib.Core.Bool.true p q r t a = elim t [ ]
+    go false mathlib.Core.Bool.true z p q r t a = elim t [ ]
+    go mathlib.Core.Bool.true y z p q r t a = elim t [ ]
 
 -- the difference of two natural numbers is no further from zero than both are
 pub near : (m n k : ℕ) → m ≤ k → n ≤ k → nat_abs (pos m -ℤ pos n) ≤ k

@@ -109,7 +109,7 @@ back z k h b = to_z-of_z (fits z k h b)
 
 -- a call's result is read back too
 pub kept : (z : ℤ) → mag z < 2 ^ 63 → to_z w64 (of_z w64 z) ≡ z
-kept z h = to_z-of_z (record { sfits = h })
+kept z h = to_z-of_z {w = w64} (record { sfits = h })
 
 -- y and z, which are u and v, as the machine adds them
 module _ (y z u v : ℤ) (k l : ℕ) (p : y ≡ u) (q : z ≡ v) (hu : nat_abs u ≤ k) (hv : nat_abs v ≤ l) (room : k + l < 2 ^ 63) where
