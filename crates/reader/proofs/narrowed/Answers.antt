@@ -1,0 +1,21 @@
+-- `reader::narrowed` meets its contract: the looks at three records, taken together.
+use Rattle.records.proofs.Search.{Look, round_below, round-from}
+use Rattle.reader.proofs.narrowed.Goals as goal
+
+pub returns-clause-by_index : goal.returns-clause-by_index
+returns-clause-by_index c =
+    let f = c.is_below.ensures in
+    let g = c.is_below-2.ensures in
+    let h = c.is_below-3.ensures in
+    let a = c.args in
+    round_below a.corners.now c.type_inv.corners c.requires.ordered.1 a.count a.key a.low a.size _ _ _ c.requires.ordered.0
+    (f.upper_bound, (f.at_lt_count, f.key_bound)) (g.upper_bound, (g.at_lt_count, g.key_bound)) (h.upper_bound, (h.at_lt_count, h.key_bound))
+
+pub returns-clause-by_index_2 : goal.returns-clause-by_index_2
+returns-clause-by_index_2 c =
+    let f = c.is_below.ensures in
+    let g = c.is_below-2.ensures in
+    let h = c.is_below-3.ensures in
+    let a = c.args in
+    round-from a.corners.now c.type_inv.corners c.requires.ordered.1 a.count a.key a.low a.size _ _ _ c.requires.ordered.0
+    (f.upper_bound, (f.at_lt_count, f.key_bound)) (g.upper_bound, (g.at_lt_count, g.key_bound)) (h.upper_bound, (h.at_lt_count, h.key_bound))
