@@ -1,6 +1,6 @@
 -- The sum over the triangles of a slice, one triangle after the other, and how far from zero it is.
 -- Assumes nothing.
-use Rattle.std.proofs.Common.{◌≡◌, ℕ, zero, suc, ◌+◌, ◌*◌, ◌^◌, ◌<◌, ◌≤◌, not, T, List, [], ◌∷◌, ◌++◌, length, get_or, drop, ℤ, ◌+ℤ◌, nat_abs, sym, refl, ap, ◌∙◌, subst, inl, inr, add-one, arith, get_or-drop, w64, SFits, to_z, of_z}
+use Rattle.std.proofs.Common.{◌≡◌, ℕ, zero, suc, ◌+◌, ◌*◌, ◌^◌, ◌<◌, ◌≤◌, not, T, List, [], ◌∷◌, ◌++◌, length, get_or, drop, ℤ, ◌+ℤ◌, nat_abs, sym, refl, ap, ◌∙◌, subst, inl, inr, add-one, arith, lit<, get_or-drop, w64, SFits, to_z, of_z}
 use lib.IntN.{+ℤ_idl, +ℤ_idr, +ℤ_assoc}
 use lib.Ieee.{Float}
 use Rattle.base.specs.Grid.{Place}
@@ -9,7 +9,7 @@ use Rattle.rules.specs.Steps.{Triangle}
 use Rattle.rules.specs.Closing.{triangles_in}
 use Rattle.rules.specs.Water.{offset, sixfold_of, sixfold, beyond_box}
 use Rattle.water.specs.Corners.{Placed, triangle_at, Summable}
-use Rattle.water.proofs.Signed.{size-add, sum_is, sum_fits}
+use Rattle.water.proofs.Signed.{size-add, fits, back}
 use Rattle.water.proofs.Sizes.{determinant-size}
 use Rattle.water.proofs.Down.{offset_near}
 
@@ -57,10 +57,10 @@ sixfold-size r points b (t ∷ ts) small =
     let both = size-add (sixfold_of r points t) (sixfold r points ts) b (length ts * b) (small t (inl refl)) rest in
     omega (arith, both)
 
--- ---- one turn of the loop over a slice: the bits of the sum over k triangles, and the next triangle's determinant z
+-- ---- one turn of the loop over a slice: the sum over k triangles, total, and the next triangle's determinant z
 
-module _ (r : Place) (points : List Float) (triangles : List ℕ) (box : T (not (beyond_box r))) (m k bits : ℕ) (z : ℤ) (all : Summable points triangles m)
-    (less : k < m) (is : bits ≡ of_z w64 (sixfold r points (triangles_in k triangles)))
+module _ (r : Place) (points : List Float) (triangles : List ℕ) (box : T (not (beyond_box r))) (m k : ℕ) (total z : ℤ) (all : Summable points triangles m)
+    (less : k < m) (is : total ≡ sixfold r points (triangles_in k triangles))
     (small : nat_abs (sixfold r points (triangles_in k triangles)) ≤ k * (6 * 2 ^ 42)) (one : z ≡ sixfold_of r points (triangle_at triangles (3 * k))) where
   abbrev passed : ℤ
   passed = sixfold r points (triangles_in k triangles)
@@ -85,12 +85,10 @@ module _ (r : Place) (points : List Float) (triangles : List ℕ) (box : T (not 
       subst (λ (y : ℤ). nat_abs y ≤ (k + 1) * (6 * 2 ^ 42)) (sym next-is) (omega (arith, both))
 
   -- the machine's sum fits, is that over one triangle more, and small enough
-  pub turn : let next = to_z w64 bits +ℤ to_z w64 (of_z w64 z) in
+  pub turn : let next = total +ℤ to_z w64 (of_z w64 z) in
       let more = sixfold r points (triangles_in (k + 1) triangles) in
       SFits w64 next × (next ≡ more) × (nat_abs more ≤ (k + 1) * (6 * 2 ^ 42))
   turn =
-      rw is (
-        sum_fits passed z passed (sixfold_of r points here) (k * (6 * 2 ^ 42)) (6 * 2 ^ 42) refl one small one-small room,
-        sum_is passed z passed (sixfold_of r points here) (k * (6 * 2 ^ 42)) (6 * 2 ^ 42) refl one small one-small room ∙ sym next-is,
-        next_small,
-      )
+      let read : to_z w64 (of_z w64 z) ≡ sixfold_of r points here = rw one (back (sixfold_of r points here) (6 * 2 ^ 42) one-small (lit< tt)) in
+      let both = size-add passed (sixfold_of r points here) (k * (6 * 2 ^ 42)) (6 * 2 ^ 42) small one-small in
+      rw (is, read) (fits (passed +ℤ sixfold_of r points here) (k * (6 * 2 ^ 42) + 6 * 2 ^ 42) both room, sym next-is, next_small)
