@@ -7,7 +7,7 @@ use mathlib.Core.Bool.{true, false}
 use native.Mathlib.Omega.{arith}
 use lib.Dec.{T, lit≤}
 use lib.IntN.{pos}
-use lib.Ieee.{Float, inf, fin, binary32, eq, le, of_int, fits}
+use lib.Ieee.{Float, inf, fin, binary32, eq, le, of_int, fits, nan}
 use lib.Ieee.Scale.{finite}
 use Rattle.base.specs.Grid.{Place, Axis, X, Y, Z, next, along}
 use Rattle.base.proofs.Tests.{and→, true→}
@@ -28,6 +28,7 @@ unfolding in_range le
 finite_in (inf true) h = absurd h
 finite_in (inf false) h = absurd h
 finite_in (fin s m e) h = tt
+finite_in nan h = elim h [ ]
 
 -- a sounding as an accepted survey has it
 pub record Sounding (v : Float) : Type 0 where

@@ -75,6 +75,7 @@ three_boxed : (a b c : Float) → Boxed a → Boxed b → Boxed c → (x : Float
 three_boxed a b c ha hb hc x (inl e) = subst Boxed (sym e) ha
 three_boxed a b c ha hb hc x (inr (inl e)) = subst Boxed (sym e) hb
 three_boxed a b c ha hb hc x (inr (inr (inl e))) = subst Boxed (sym e) hc
+three_boxed a b c ha hb hc x (inr (inr (inr x4))) = elim x4 [ ]
 
 -- a spot with a boxed coordinate on an axis, at a place of the box
 spot_boxed : (a : Axis) (v : Float) (p : Place) → Boxed v → ((b : Axis) → along b p ≤ 1024) → (x : Float) → In x (coordinates (spot a v p)) → Boxed x

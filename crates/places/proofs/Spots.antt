@@ -8,7 +8,7 @@ use mathlib.Core.Bool.{Bool, true, false, not, beq, true≢false}
 use mathlib.Core.List.{List}
 use lib.Dec.{T}
 use lib.Pow.{pow_pos}
-use lib.Ieee.{Float, inf, fin, binary32}
+use lib.Ieee.{Float, inf, fin, binary32, nan}
 use Rattle.base.specs.Lists.{all}
 use Rattle.base.specs.Grid.{Place, Axis, X, Y, Z, along, put}
 use Rattle.base.proofs.Tests.{→and}
@@ -47,6 +47,7 @@ bare_unsigned (inf true) b = absurd (true≢false b)
 bare_unsigned (inf false) b = tt
 bare_unsigned (fin true m e) b = absurd (true≢false b)
 bare_unsigned (fin false m e) b = tt
+bare_unsigned nan b = elim b [ ]
 
 whole-unsigned : (n : ℕ) → T (unsigned (float n))
 unfolding float
