@@ -9,28 +9,26 @@ loop-i-init c = (omega arith, refl, record { before = c.requires.beyond_to; side
 
 pub first_across-far-requires : goal.first_across-far-requires
 first_across-far-requires c =
-    let p = (c.requires.cells_len_bound, c.requires.first_value, c.requires.beyond_to) in
-    let inside = own_inside c.args.cells.now (→true c.requires.cells_value) (→false c.requires.cells_value_2) c.args.n p.0.1 (λ z. omega (arith, p.1.0))
-    c.loop-i.across c.args.first c.loop-i.i p.1.0.0 (omega arith) c.loop-i.invariant.2 in
-    record { cells_len_bound = (p.0.0, p.0.1, omega arith); i_in_bounds = inside }
+    let inside = own_inside c.args.cells.now (→true c.requires.cells_value) (→false c.requires.cells_value_2) c.args.n c.requires.cells_len_bound.1 (λ z. omega (arith, c.requires.first_value))
+    c.loop-i.across c.args.first c.loop-i.i c.requires.first_value.0 (omega arith) c.loop-i.invariant.2 in
+    record { cells_len_bound = (c.requires.cells_len_bound.0, c.requires.cells_len_bound.1, omega arith); i_in_bounds = inside }
 
 pub fill_side-requires : goal.fill_side-requires
 fill_side-requires c =
-    let p = (c.requires.cells_len_bound, c.requires.first_value, c.requires.beyond_to) in
-    let fit = both_fit c.args.cells.now (→true c.requires.cells_value) (→false c.requires.cells_value_2) c.args.n p.0.1 (λ z. omega (arith, p.1.0))
-    c.loop-i.across c.args.first c.loop-i.i p.1.0.0 (omega arith) c.loop-i.invariant.2 in
+    let fit = both_fit c.args.cells.now (→true c.requires.cells_value) (→false c.requires.cells_value_2) c.args.n c.requires.cells_len_bound.1 (λ z. omega (arith, c.requires.first_value))
+    c.loop-i.across c.args.first c.loop-i.i c.requires.first_value.0 (omega arith) c.loop-i.invariant.2 in
     record {
-      cells_len_bound = (p.0.0, fit.0, omega (arith, c.first_across-far.ensures));
+      cells_len_bound = (c.requires.cells_len_bound.0, fit.0, omega (arith, c.first_across-far.ensures));
       cells_in_bounds = (c.loop-i.invariant.2.before.room, omega arith);
     }
 
 pub loop-i-preserved : goal.loop-i-preserved
 loop-i-preserved c =
-    let p = (c.requires.cells_len_bound, c.requires.first_value, c.requires.beyond_to) in (
+    (
       omega arith,
       c.fill_side.ensures.same_length ∙ c.loop-i.invariant.1,
-      sides-more c.args.cells.now (→true c.requires.cells_value) (→false c.requires.cells_value_2) c.args.n p.0.1 (λ z. omega (arith, p.1.0))
-          c.loop-i.across c.args.first c.loop-i.i p.1.0.0 (omega arith) c.loop-i.invariant.2 _ _ c.first_across-far.ensures c.fill_side.ensures,
+      sides-more c.args.cells.now (→true c.requires.cells_value) (→false c.requires.cells_value_2) c.args.n c.requires.cells_len_bound.1 (λ z. omega (arith, c.requires.first_value))
+          c.loop-i.across c.args.first c.loop-i.i c.requires.first_value.0 (omega arith) c.loop-i.invariant.2 _ _ c.first_across-far.ensures c.fill_side.ensures,
     )
 
 pub returns : goal.returns

@@ -9,13 +9,13 @@ use Rattle.checks.proofs.bad_sounding.Goals as goal
 pub returns-then-not-in_range : goal.returns-then-not-in_range
 returns-then-not-in_range c =
     let t = c.args.corners.now in
-    let out = ap beyond (sym c.corner_at-c.ensures) ∙ ap not (sym c.in_range_lem.ensures) ∙ c.if-not-in_range.true in
+    let out = ap beyond (sym c.corner_at-c.ensures) ∙ ap not (sym c.in_range.ensures ∙ c.if-not-in_range.true) in
     sym (beyond-here t c.loop-n.n (omega arith) out) ∙ c.loop-n.invariant.1
 
 pub loop-n-preserved : goal.loop-n-preserved
 loop-n-preserved c =
     let t = c.args.corners.now in
-    let in-here = ap beyond (sym c.corner_at-c.ensures) ∙ ap not (sym c.in_range_lem.ensures) ∙ c.if-not-in_range.false in
+    let in-here = ap beyond (sym c.corner_at-c.ensures) ∙ ap not (sym c.in_range.ensures ∙ c.if-not-in_range.false) in
     (search rules, not-beyond-here t c.loop-n.n (omega arith) in-here ∙ c.loop-n.invariant.1)
 
 pub returns : goal.returns

@@ -17,14 +17,14 @@ returns-then-not-mark_all c =
     let n = record_count tk in
     let table = table_is tk c.args.laid.now c.args.octants.now _ c.requires.looked_up (omega arith) in
     one_missing c.args.cells.now tk c.args.laid.now c.requires.cells_value c.requires.laid c.type_inv.corners n refl
-    (sym (c.mark_all.ensures.value ∙ ap (all (λ k. ltb k n)) table) ∙ not-true c.mark_all.result c.if-not-mark_all.true)
+    (sym (c.mark_all.ensures.value ∙ ap (all (λ k. ltb k n)) table) ∙ c.if-not-mark_all.true)
 
 pub returns : goal.returns
 returns c =
     let tk = c.args.corners.now in
     let n = record_count tk in
     let table = table_is tk c.args.laid.now c.args.octants.now _ c.requires.looked_up (omega arith) in
-    let there = not-false c.mark_all.result c.if-not-mark_all.false in
+    let there = c.if-not-mark_all.false in
     c.all_marked.ensures ∙
     none_missing_made c.args.cells.now tk c.args.laid.now c.requires.cells_value c.requires.laid c.type_inv.corners n refl
     c.requires.corners_value 4872 _ (omega arith) (sym (c.mark_all.ensures.value ∙ ap (all (λ k. ltb k n)) table) ∙ there)

@@ -39,7 +39,7 @@ returns-then-not-entries_right c =
     let e = refused_three a.cells.now a.corners.now
     (sym c.bad_table.ensures ∙ c.if-bad_table.false)
     (sym c.bad_table-2.ensures ∙ c.if-bad_table-2.false)
-    (ap not (sym c.entries_right_lem.ensures) ∙ c.if-not-entries_right.true) in
+    (ap not (sym c.entries_right.ensures ∙ c.if-not-entries_right.true)) in
     record { value = e; tables = λ z. absurd (omega arith) }
 
 pub lay_out-requires : goal.lay_out-requires
@@ -48,7 +48,7 @@ lay_out-requires c =
     let most = (table_fits 4 8196 a.cells.now (sym c.bad_table.ensures ∙ c.if-bad_table.false)).1 in
     record {
       count_value = refl;
-      cells_value = sym c.entries_right_lem.ensures ∙ not-false c.entries_right_lem.result c.if-not-entries_right.false;
+      cells_value = sym c.entries_right.ensures ∙ c.if-not-entries_right.false;
       count_in_bounds = omega arith;
     }
 
@@ -58,7 +58,7 @@ returns-then-lay_out c =
     let e = refused_four a.cells.now a.corners.now
     (sym c.bad_table.ensures ∙ c.if-bad_table.false)
     (sym c.bad_table-2.ensures ∙ c.if-bad_table-2.false)
-    (ap not (sym c.entries_right_lem.ensures) ∙ c.if-not-entries_right.false)
+    (ap not (sym c.entries_right.ensures ∙ c.if-not-entries_right.false))
     (sym c.lay_out.ensures.value ∙ c.if-lay_out.true) in
     record { value = e; tables = λ z. absurd (omega arith) }
 
@@ -68,9 +68,9 @@ returns-then-not-corners_rise c =
     let e = refused_five a.cells.now a.corners.now
     (sym c.bad_table.ensures ∙ c.if-bad_table.false)
     (sym c.bad_table-2.ensures ∙ c.if-bad_table-2.false)
-    (ap not (sym c.entries_right_lem.ensures) ∙ c.if-not-entries_right.false)
+    (ap not (sym c.entries_right.ensures ∙ c.if-not-entries_right.false))
     (sym c.lay_out.ensures.value ∙ c.if-lay_out.false)
-    (ap not (sym c.corners_rise.ensures) ∙ c.if-not-corners_rise.true) in
+    (ap not (sym c.corners_rise.ensures ∙ c.if-not-corners_rise.true)) in
     record { value = e; tables = λ z. absurd (omega arith) }
 
 pub fill-requires : goal.fill-requires
@@ -79,7 +79,7 @@ fill-requires c =
     let most = (table_fits 4 8196 a.cells.now (sym c.bad_table.ensures ∙ c.if-bad_table.false)).1 in
     let few = (table_fits record_size corner_limit a.corners.now (sym c.bad_table-2.ensures ∙ c.if-bad_table-2.false)).1 in
     let laid = c.lay_out.ensures.laid c.if-lay_out.false in
-    let rises = sym c.corners_rise.ensures ∙ not-false c.corners_rise.result c.if-not-corners_rise.false in
+    let rises = sym c.corners_rise.ensures ∙ c.if-not-corners_rise.false in
     record {
       corners_value = rises;
       corners_len_bound = (few, c.requires.1);
@@ -92,8 +92,8 @@ corners_right-requires c =
     let a = c.args in
     let most = (table_fits 4 8196 a.cells.now (sym c.bad_table.ensures ∙ c.if-bad_table.false)).1 in
     let few = (table_fits record_size corner_limit a.corners.now (sym c.bad_table-2.ensures ∙ c.if-bad_table-2.false)).1 in
-    let right = sym c.entries_right_lem.ensures ∙ not-false c.entries_right_lem.result c.if-not-entries_right.false in
-    let rises = sym c.corners_rise.ensures ∙ not-false c.corners_rise.result c.if-not-corners_rise.false in
+    let right = sym c.entries_right.ensures ∙ c.if-not-entries_right.false in
+    let rises = sym c.corners_rise.ensures ∙ c.if-not-corners_rise.false in
     record {
       cells_value = right;
       laid = c.lay_out.ensures.laid c.if-lay_out.false;
@@ -108,10 +108,10 @@ returns-then-not-corners_right c =
     let e = refused_six a.cells.now a.corners.now
     (sym c.bad_table.ensures ∙ c.if-bad_table.false)
     (sym c.bad_table-2.ensures ∙ c.if-bad_table-2.false)
-    (ap not (sym c.entries_right_lem.ensures) ∙ c.if-not-entries_right.false)
+    (ap not (sym c.entries_right.ensures ∙ c.if-not-entries_right.false))
     (sym c.lay_out.ensures.value ∙ c.if-lay_out.false)
-    (ap not (sym c.corners_rise.ensures) ∙ c.if-not-corners_rise.false)
-    (ap not (sym c.corners_right.ensures) ∙ c.if-not-corners_right.true) in
+    (ap not (sym c.corners_rise.ensures ∙ c.if-not-corners_rise.false))
+    (ap not (sym c.corners_right.ensures ∙ c.if-not-corners_right.true)) in
     record { value = e; tables = λ z. absurd (omega arith) }
 
 pub returns : goal.returns
@@ -121,10 +121,10 @@ returns c =
     let passed = none-refused a.cells.now a.corners.now
     (sym c.bad_table.ensures ∙ c.if-bad_table.false)
     (sym c.bad_table-2.ensures ∙ c.if-bad_table-2.false)
-    (ap not (sym c.entries_right_lem.ensures) ∙ c.if-not-entries_right.false)
+    (ap not (sym c.entries_right.ensures ∙ c.if-not-entries_right.false))
     (sym c.lay_out.ensures.value ∙ c.if-lay_out.false)
-    (ap not (sym c.corners_rise.ensures) ∙ c.if-not-corners_rise.false)
-    (ap not (sym c.corners_right.ensures) ∙ c.if-not-corners_right.false) in
+    (ap not (sym c.corners_rise.ensures ∙ c.if-not-corners_rise.false))
+    (ap not (sym c.corners_right.ensures ∙ c.if-not-corners_right.false)) in
     let laid = c.lay_out.ensures.laid c.if-lay_out.false in
     let filled = c.fill.ensures in
     record {

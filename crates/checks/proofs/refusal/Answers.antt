@@ -13,10 +13,10 @@ pub returns-then-not-in_range : goal.returns-then-not-in_range
 returns-then-not-in_range c =
     let a = c.args in
     clearance-refused a.cells.now a.corners.now a.clearance c.soundings-number.result c.soundings-number.ensures c.if-number-ne0.false
-    (ap not (sym c.in_range_lem.ensures) ∙ c.if-not-in_range.true)
+    (ap not (sym c.in_range.ensures ∙ c.if-not-in_range.true))
 
 pub returns : goal.returns
 returns c =
     let a = c.args in
     nothing-refused a.cells.now a.corners.now a.clearance c.soundings-number.result c.soundings-number.ensures c.if-number-ne0.false
-    (ap not (sym c.in_range_lem.ensures) ∙ c.if-not-in_range.false)
+    (ap not (sym c.in_range.ensures ∙ c.if-not-in_range.false))
