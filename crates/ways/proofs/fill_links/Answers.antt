@@ -1,0 +1,98 @@
+use Prim.Native.Nat.{ℕ, ◌+◌, ◌*◌, ◌≤◌, ◌<◌}
+use mathlib.Core.Path.{◌≡◌, refl, sym, ap, ◌∙◌, subst}
+use mathlib.Core.List.{List}
+use native.Mathlib.Omega.{arith}
+use lib.ListN.{length, length-replicate}
+use Rattle.rules.specs.Survey.{record_count}
+use Rattle.records.proofs.Keys.{Bytes}
+use Rattle.ways.specs.Linked.{linked_at}
+use Rattle.ways.proofs.Linking.{link_start}
+use Rattle.ways.proofs.Joined.{lowest_from, far_from, Step, Filled, linked}
+use Rattle.ways.proofs.Slots.{Linked, few-corners, far-inside, slot_linked}
+use Rattle.ways.proofs.fill_links.Goals as goal
+use Rattle.ways.proofs.fill_links.Goals.{After-link, After-link-in-loop-k, After-link-in-loop-k-2, At-loop-k, Start}
+
+-- the links that are in, of a table
+abbrev LinkedAt : At-loop-k → List ℕ → ℕ → Type 0
+LinkedAt l = Linked l.args.corners.now l.args.wets.now l.args.slots.now
+
+module _ (s : Start) where
+  abbrev FilledAt : Type 0
+  FilledAt = Filled s.args.cells.now s.args.corners.now s.args.clearance s.args.slots.now s.args.wets.now
+
+  filled_at : Bytes s.args.corners.now → FilledAt
+  filled_at bytes = let (ok, (marks, (levelled, empty))) = (s.requires.clearance_value, (s.requires.wets, (s.requires.levelled, s.requires.links_value))) in record { ok = ok; bytes = bytes; levelled = levelled; marks = marks }
+
+module _ (l : At-loop-k) where
+  filled : FilledAt (goal.at.At-loop-k l).Start
+  filled = filled_at (goal.at.At-loop-k l).Start l.type_inv.corners
+
+  few : record_count l.args.corners.now ≤ 4872
+  few = few-corners filled
+
+  module _ (h : l.loop-k.k < record_count l.args.corners.now) (n : ℕ) (g : n < 3) where
+    far-few : lowest_from l.args.slots.now n l.loop-k.k ≤ 10 → far_from l.args.slots.now n l.loop-k.k < 4872
+    far-few o = let a = far-inside filled n l.loop-k.k g h o in omega (arith, few)
+
+    more : (x : ℕ) → x ≡ 3 * l.loop-k.k + n → {t : List ℕ} → LinkedAt l t x →
+        {new : List ℕ} → new ≡ linked_at l.args.wets.now l.args.slots.now n l.loop-k.k t → LinkedAt l new (x + 1)
+    more x e {t} known {new} is = slot_linked filled n l.loop-k.k x g h e t known new is
+
+first : (r : After-link) → LinkedAt (goal.at.After-link r).At-loop-k r.link.new.links (3 * r.loop-k.k + 1)
+first r =
+    more (goal.at.After-link r).At-loop-k r.loop-k-test.true 0 (omega arith) (3 * r.loop-k.k) (omega arith) r.loop-k.invariant.0 r.link.ensures
+
+second : (r : After-link-in-loop-k) →
+    LinkedAt (goal.at.After-link-in-loop-k r).At-loop-k r.link-in-loop-k.new.links (3 * r.loop-k.k + 1 + 1)
+second r =
+    more (goal.at.After-link-in-loop-k r).At-loop-k r.loop-k-test.true 1 (omega arith) (3 * r.loop-k.k + 1) refl (first (goal.at.After-link-in-loop-k r).After-link) r.link-in-loop-k.ensures
+
+third : (r : After-link-in-loop-k-2) →
+    LinkedAt (goal.at.After-link-in-loop-k-2 r).At-loop-k r.link-in-loop-k-2.new.links (3 * r.loop-k.k + 1 + 1 + 1)
+third r =
+    more (goal.at.After-link-in-loop-k-2 r).At-loop-k r.loop-k-test.true 2 (omega arith) (3 * r.loop-k.k + 1 + 1) (omega arith) (second (goal.at.After-link-in-loop-k-2 r).After-link-in-loop-k) r.link-in-loop-k-2.ensures
+
+pub loop-k-init : goal.loop-k-init
+loop-k-init c =
+    let a = c.args in
+    let few = few-corners (filled_at (goal.at.loop-k-init c).Start c.type_inv.corners) in (
+      subst (λ (t : List ℕ). Linked a.corners.now a.wets.now a.slots.now t 0) (sym c.requires.links_value)
+          (link_start (record_count a.corners.now) (Step a.corners.now a.wets.now a.slots.now) few 29232 refl),
+      omega arith,
+    )
+
+pub link-requires : goal.link-requires
+link-requires c =
+    let h = c.loop-k-test.true in
+    record {
+      slots_len = (c.requires.levelled.size, omega arith, omega (arith, few (goal.at.link-requires c).At-loop-k), c.requires.wets.size, c.loop-k.invariant.0.room);
+      k_bound = far-few (goal.at.link-requires c).At-loop-k h 0 (omega arith);
+    }
+
+pub link-requires-in-loop-k : goal.link-requires-in-loop-k
+link-requires-in-loop-k c =
+    let h = c.loop-k-test.true in
+    record {
+      slots_len = (c.requires.levelled.size, omega arith, omega (arith, few (goal.at.link-requires-in-loop-k c).At-loop-k), c.requires.wets.size, (first (goal.at.link-requires-in-loop-k c).After-link).room);
+      k_bound = far-few (goal.at.link-requires-in-loop-k c).At-loop-k h 1 (omega arith);
+    }
+
+pub link-requires-in-loop-k-2 : goal.link-requires-in-loop-k-2
+link-requires-in-loop-k-2 c =
+    let h = c.loop-k-test.true in
+    record {
+      slots_len = (c.requires.levelled.size, omega arith, omega (arith, few (goal.at.link-requires-in-loop-k-2 c).At-loop-k), c.requires.wets.size, (second (goal.at.link-requires-in-loop-k-2 c).After-link-in-loop-k).room);
+      k_bound = far-few (goal.at.link-requires-in-loop-k-2 c).At-loop-k h 2 (omega arith);
+    }
+
+pub loop-k-preserved : goal.loop-k-preserved
+loop-k-preserved c =
+    let e : 3 * c.loop-k.k + 1 + 1 + 1 ≡ 3 * (c.loop-k.k + 1) = omega arith in
+    (subst (LinkedAt (goal.at.loop-k-preserved c).At-loop-k c.link-in-loop-k-2.new.links) e (third (goal.at.loop-k-preserved c).After-link-in-loop-k-2), omega (arith, c.loop-k-test.true))
+
+pub shape_of-links : goal.shape_of-links
+shape_of-links c = c.loop-k.invariant.0.room ∙ sym (ap length c.requires.links_value ∙ length-replicate {A = ℕ} 29232 4883)
+
+pub returns : goal.returns
+returns c =
+    linked (filled (goal.at.returns c).At-loop-k) c.loop-k.links (3 * c.loop-k.k) (omega (arith, c.loop-k-test.false)) c.loop-k.invariant.0
