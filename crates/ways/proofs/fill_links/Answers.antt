@@ -21,7 +21,7 @@ module _ (s : Start) where
   FilledAt = Filled s.args.cells.now s.args.corners.now s.args.clearance s.args.slots.now s.args.wets.now
 
   filled_at : Bytes s.args.corners.now → FilledAt
-  filled_at bytes = let (ok, (marks, (levelled, empty))) = (s.requires.clearance_value, (s.requires.wets, (s.requires.levelled, s.requires.links_value))) in record { ok = ok; bytes = bytes; levelled = levelled; marks = marks }
+  filled_at bytes = record { ok = s.requires.clearance_value; bytes = bytes; levelled = s.requires.levelled; marks = s.requires.wets }
 
 module _ (l : At-loop-k) where
   filled : FilledAt (goal.at.At-loop-k l).Start

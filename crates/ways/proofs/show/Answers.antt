@@ -18,9 +18,16 @@ abbrev call : Start → Call
 call s = call_of s.args.cells.now s.args.corners.now s.args.asked s.args.way.now s.args.work.now
 
 with_links : (s : Start) → WithLinks (call s) s.args.wets.now s.args.links.now
-with_links s =
-    let (accepted, (marks, (linked, ((is_start, is_end), (way-fits, work-fits))))) = (s.requires.clearance_value, (s.requires.wets, (s.requires.links, (s.requires.start_bound, s.requires.corners_in_bounds)))) in
-    record { marks = marks; linked = linked; fits = record { is_start = is_start; is_end = is_end; way-fits = way-fits; work-fits = work-fits } }
+with_links s = record {
+  marks = s.requires.wets;
+  linked = s.requires.links;
+  fits = record {
+    is_start = s.requires.start_bound.0;
+    is_end = s.requires.start_bound.1;
+    way-fits = s.requires.corners_in_bounds.0;
+    work-fits = s.requires.corners_in_bounds.1;
+  };
+}
 
 few : (s : Start) → count (call s) ≤ 4872
 few s =
