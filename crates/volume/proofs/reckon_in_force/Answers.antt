@@ -49,6 +49,6 @@ returns c =
     let both = subst (Promised a.cells.now a.corners.now a.asked.clearance a.points.now a.triangles.now (reference_place a.asked.reference) _ _)
     (sym c.with_volume-2.ensures)
     (drawn_promised a.cells.now a.corners.now a.asked.clearance a.points.now a.triangles.now c.draw_drawable-drawn.result _ _
-    c.draw_drawable-drawn.ensures c.if-drawn-ne0.false (reference_place a.asked.reference) _ (kept sum.result sum.type-inv
+    c.draw_drawable-drawn.ensures c.if-drawn-ne0.false (reference_place a.asked.reference) _ (kept sum.result sum.type_inv
     ∙ sum.ensures)
     c.refusal-number.result c.refusal-number.ensures.value c.if-number-ne0.false) in record { reckons = both.0; closed_anywhere = both.1 }
