@@ -8,11 +8,13 @@ returns-in-Refused c =
     let a = c.args in
     let both = all_promises a.cells.now a.corners.now a.amendments.now a.calendar.now a.minute a.points.now a.triangles.now _ _ _
     (refuses a.cells.now a.corners.now a.amendments.now a.calendar.now a.minute a.points.now a.triangles.now
-    c.number-1.given.0.0 c.refused.result (sym c.number-1.given.1 ∙ c.read.ensures) c.refused.ensures) in record { exact = both.0; by_hand = both.1.0; closes = both.1.1 }
+    c.in-Refused.number c.refused.result c.in-Refused.ensures c.refused.ensures) in
+    record { exact = both.0; by_hand = both.1.0; closes = both.1.1 }
 
 pub returns-in-Clearance : goal.returns-in-Clearance
 returns-in-Clearance c =
     let a = c.args in
     let both = all_promises a.cells.now a.corners.now a.amendments.now a.calendar.now a.minute a.points.now a.triangles.now _ _ _
     (draws a.cells.now a.corners.now a.amendments.now a.calendar.now a.minute a.points.now a.triangles.now _ _ _
-    c.clearance-1.given.0.0 (sym c.clearance-1.given.1 ∙ c.read.ensures) c.draw.ensures.exact) in record { exact = both.0; by_hand = both.1.0; closes = both.1.1 }
+    c.in-Clearance.clearance c.in-Clearance.ensures c.draw.ensures.exact) in
+    record { exact = both.0; by_hand = both.1.0; closes = both.1.1 }

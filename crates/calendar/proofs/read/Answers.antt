@@ -1,12 +1,12 @@
 use Prim.Native.Nat.{◌+◌}
 use mathlib.Core.Path.{◌≡◌, refl, sym, ap, ◌∙◌}
-use mathlib.Core.Logic.{⊎_elim}
 use native.Mathlib.Omega.{arith}
 use lib.ListN.{drop}
 use Rattle.rules.specs.Calendar.{period_at, periods_of, holds_at}
 use Rattle.calendar.proofs.Pass.{noted, noted_now, noted_not, pass, reads, part_left, stopped, went_on, ended_all}
 use Rattle.calendar.proofs.Periods.{follows}
 use Rattle.calendar.proofs.read.Goals as goal
+use Rattle.calendar.proofs.read.Goals.{then-holds, else-holds}
 
 pub returns-then-calendar-ne0 : goal.returns-then-calendar-ne0
 returns-then-calendar-ne0 c = let a = c.args in part_left a.calendar.now a.minute c.if-calendar-ne0.true
@@ -31,10 +31,10 @@ loop-k-preserved c =
     let lawful = ap (follows l.ended) (sym read) ∙ sym c.follows.ensures
     ∙ c.if-not-follows.false in
     let held = ap (holds_at a.minute) (sym read) ∙ sym c.holds.ensures in
-    let new : c.if-holds.reading ≡ noted a.minute l.reading (period_at t l.k) = ⊎_elim
-    (λ w. w.1 ∙ noted_now a.minute l.reading c.period_at-p.result (period_at t l.k) read (held ∙ w.0.taken))
-    (λ w. w.1 ∙ noted_not a.minute l.reading (period_at t l.k) (held ∙ w.0.left))
-    c.if-holds.branch in (
+    let new : c.if-holds.reading ≡ noted a.minute l.reading (period_at t l.k) = elim c.if-holds.branch [
+      then-holds w ↦ w.reading-is ∙ noted_now a.minute l.reading c.period_at-p.result (period_at t l.k) read (held ∙ w.if-holds.true)
+    | else-holds w ↦ w.reading-is ∙ noted_not a.minute l.reading (period_at t l.k) (held ∙ w.if-holds.false)
+    ] in (
       l.invariant.0,
       omega (arith, l.invariant.0),
       (λ i. pass a.minute (new i) (read i).until (drop (l.k + 1) (periods_of t)))
