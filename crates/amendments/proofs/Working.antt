@@ -11,7 +11,6 @@ use lib.Dec.{eqb, ltb}
 use lib.ListN.{length, take, drop, length-drop}
 use lib.Seq.{length-take-le, take-take, take_all, take-length, take-suc, drop-drop, take_at, drop_at, paste, length-paste, take-paste, drop-paste}
 use borrow.Author.Tests.{eq-eqb, ne_eqb, lt-ltb, le-ltb}
-use Rattle.base.specs.Lists.{collect}
 use Rattle.base.specs.Grid.{same}
 use Rattle.base.proofs.Tests.{below}
 use Rattle.base.proofs.Below.{get_table, length-table}

@@ -1,6 +1,7 @@
 // Amendments, lent beside the corner table: document 02, request 6. Checks 14 and 15, and the corner table as amended, which all else reads in place of the one
 // that was lent. Uses records and reader.
 #![tactic(auto)]
+
 ghost use Rattle.std.specs.Prelude.{◌≡◌, true, false, not, ◌++◌, ◌+◌, ◌%◌, ◌≤◌, ◌<◌, length, take, drop};
 ghost use Rattle.base.specs.Lists.{any, bytes};
 ghost use Rattle.rules.specs.Survey.{record_size, record_count, record_bytes};

@@ -1,6 +1,7 @@
 // The cells of a survey by record number: check 3 of their entries, check 4 of their depth, and the table of their places and levels.
 // Uses records.
 #![tactic(auto)]
+
 ghost use Rattle.std.specs.Prelude.{◌≡◌, true, false, ◌+◌, ◌*◌, ◌^◌, ◌≤◌, ◌<◌, ◌/◌, length};
 ghost use Rattle.base.specs.Lists.{any};
 ghost use Rattle.rules.specs.Survey.{entries, cells_of};

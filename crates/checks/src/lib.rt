@@ -1,6 +1,7 @@
 // The refusals of a survey: document 01, "Outputs and refusals", checks 1 to 8 in their order, with 14 and 15 of document 02 after 6. Uses records, amendments,
 // cells and octants.
 #![tactic(auto)]
+
 ghost use Rattle.std.specs.Prelude.{◌≡◌, true, not, [], ◌∷◌, ◌++◌, ◌+◌, ◌*◌, ◌≤◌, ◌<◌, ◌/◌, length, get_or, set, take, ltb, eqb};
 ghost use Rattle.base.specs.Lists.{all, any, count as up_to};
 ghost use Rattle.rules.specs.Survey.{record_count, entries, cells_of, corners_of};

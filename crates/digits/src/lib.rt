@@ -1,5 +1,6 @@
 // Small tables of numbers as the digits of one number in base sixteen: the compiler's back end would make a `const` table anew at every look. Uses base.
 #![tactic(auto)]
+
 ghost use Rattle.std.specs.Prelude.{◌≡◌, ◌<◌};
 ghost use Rattle.digits.specs.Digits.{digit_of};
 

@@ -1,13 +1,10 @@
 -- The listing of what is drawn fits its slice, and is what the program prints.
 -- Assumes nothing.
-use Prim.Native.Nat.{ℕ, ◌+◌}
-use native.Mathlib.Omega.{arith}
-use mathlib.Core.Path.{◌≡◌, sym, ap, ◌∙◌}
-use mathlib.Core.Bool.{Bool, cond}
-use mathlib.Core.List.{List}
-use lib.ListN.{length, drop, replicate, length-append}
-use lib.Ieee.{Float, binary32, of_bits}
-use borrow.Author.Tests.{eq-eqb, ne_eqb}
+use Rattle.std.proofs.Common.{◌≡◌, ℕ, ◌+◌, Bool, cond, List, arith, sym, ap, ◌∙◌, length, take, drop, replicate, length-append, Float, eq-eqb}
+use Rattle.std.specs.Float.{binary32}
+use Rattle.std.specs.Float.Ieee.{of_bits}
+use lib.Seq.{take-append_seam}
+use borrow.Author.Tests.{ne_eqb}
 use Rattle.base.specs.Lists.{little, bytes}
 use Rattle.rules.specs.Closing.{ClosedIn}
 use Rattle.rules.specs.Resounding.{draw_amended}
@@ -50,3 +47,10 @@ listed tc tk ta clearance r ps ts before after most end d w size =
       room = omega (arith, w.ends, whole, size);
       slice = w.slice ∙ ap (λ (l : List ℕ). written_at 0 l before) same;
     }
+
+-- a text that is written to the front of a slice stands there
+pub front : {text before after : List ℕ} {most end : ℕ} → Wrote text most 0 before after end → take end after ≡ text
+unfolding written_at
+front {text} {before} {after} {most} {end} w =
+    let long : end ≡ length text = omega (arith, w.ends) in
+    ap (take end) w.slice ∙ rw long (take-append_seam text (drop (length text) before))

@@ -1,6 +1,6 @@
 -- Document 01's twin survey, from the files that the drawing program reads to the bytes that it prints: one statement, `twin-survey`.
 -- What is printed is `printed`, of which `draw::list` is proved to write every byte; the slices lent are those of 2,048 points and 4,096 triangles.
--- `rt check draw` runs the program in data/, on the same bytes.
+-- `rt ci` runs the program in data/, on the same bytes.
 -- Assumes nothing.
 use Prim.Native.Nat.{ℕ, ◌+◌, ◌-◌, ◌*◌}
 use Prim.Native.String.{String}

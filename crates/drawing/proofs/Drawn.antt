@@ -36,16 +36,16 @@ module _ (tc tk : List ℕ) (clearance : Float) (ps : List Float) (ts : List ℕ
   unfolding survey_of point_edges all_triangles point_floats triangle_numbers drawable
   given number =
       let s = survey_of tc tk clearance in
-      let newPoints = written (point_floats tc tk clearance) ps in
-      let newTriangles = written (triangle_numbers tc tk clearance) ts in
+      let new_points = written (point_floats tc tk clearance) ps in
+      let new_triangles = written (triangle_numbers tc tk clearance) ts in
       record {
         result = record {
           number = number;
           points = cond (drawable tc tk clearance) (length (point_edges s)) 0;
           triangles = cond (drawable tc tk clearance) (length (all_triangles s)) 0;
         };
-        points = cond (eqb number 0) newPoints ps;
-        triangles = cond (eqb number 0) newTriangles ts;
+        points = cond (eqb number 0) new_points ps;
+        triangles = cond (eqb number 0) new_triangles ts;
       }
 
   -- drawing: refused by the checks before the slices', else by the slices'

@@ -85,10 +85,10 @@ module _ (tc tk : List ℕ) (clearance : Float) (ps : List Float) (ts : List ℕ
     fits zero = both_fit (length ps) (length ts) (3 * n) (3 * m) (sym is ∙ zero)
 
     -- drawn: the points and the triangles are written
-    pub drawn : number ≡ 0 → (newPoints : List Float) (newTriangles : List ℕ) → newPoints ≡ written (point_floats tc tk clearance) ps
-        → newTriangles ≡ written (triangle_numbers tc tk clearance) ts → Draws (draw tc tk clearance ps ts) (returned 0 n m) newPoints newTriangles
+    pub drawn : number ≡ 0 → (new_points : List Float) (new_triangles : List ℕ) → new_points ≡ written (point_floats tc tk clearance) ps
+        → new_triangles ≡ written (triangle_numbers tc tk clearance) ts → Draws (draw tc tk clearance ps ts) (returned 0 n m) new_points new_triangles
     unfolding outcome
-    drawn zero newPoints newTriangles p t =
+    drawn zero new_points new_triangles p t =
         let d = draw_outcome true true 0 ok refl (short_is ∙ zero) in
         let counts : returned 0 n m ≡ returned 0 point_count triangle_count = λ i. returned 0 (points_are i) (triangles_are i) in
         record {

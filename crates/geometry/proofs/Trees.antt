@@ -7,7 +7,7 @@ use mathlib.Core.Bool.{Bool, true, false, not, ◌||◌, beq, true≢false, fals
 use mathlib.Core.Option.{Option, none, some, none-ne-some, some-injective}
 use Rattle.base.specs.Grid.{Place, Axis, next, along, move}
 use Rattle.rules.specs.Survey.{Survey}
-use Rattle.rules.specs.Edges.{CellEdge, edge, is_edge, divided, undivided, odd, carrier}
+use Rattle.rules.specs.Edges.{CellEdge, edge, is_edge, divided, odd, carrier}
 use Rattle.rules.specs.Steps.{is_upper, above, other, twin}
 use Rattle.base.proofs.Tests.{or_left, or_right, true→, →true}
 use Rattle.base.proofs.Places.{along-put}

@@ -1,5 +1,6 @@
 // The corner records of every cell, looked up once: what follows needs no search for them. Uses records, reader and cells.
 #![tactic(auto)]
+
 ghost use Rattle.std.specs.Prelude.{◌≡◌, true, ℕ, ◌+◌, ◌*◌, ◌^◌, ◌≤◌, ◌<◌, length};
 ghost use Rattle.rules.specs.Outputs.{corner_limit, rising};
 ghost use Rattle.records.specs.Keys.{places_of, record_at};

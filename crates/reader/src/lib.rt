@@ -1,6 +1,7 @@
 // Corner look-up through one small reader laid over the lent corner bytes: every look-up of a corner by its place, guessed or not, goes through the reader.
 // Uses records.
 #![tactic(auto)]
+
 ghost use Rattle.std.specs.Prelude.{◌≡◌, true, ℕ, ◌+◌, ◌*◌, ◌≤◌, ◌<◌, ◌/◌};
 ghost use Rattle.rules.specs.Survey.{record_count, corner_record, place_of};
 ghost use Rattle.rules.specs.Outputs.{rising};

@@ -1,5 +1,6 @@
 // The tables' records as numbers: bytes, entries and corners, each read at its place in the lent bytes. Uses rules.
 #![tactic(auto)]
+
 ghost use Rattle.std.specs.Prelude.{◌≡◌, true, ◌||◌, ◌+◌, ◌*◌, ◌≤◌, ◌<◌, ◌/◌, eqb, length};
 ghost use Rattle.std.specs.Float.{binary32};
 ghost use Rattle.std.specs.Float.Ieee.{of_bits};

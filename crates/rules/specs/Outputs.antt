@@ -154,12 +154,12 @@ draw tc tk clearance ps ts =
     let n = length (point_edges s) in
     let m = length (all_triangles s) in
     let number = first_of (drawing_checks tc tk clearance ++ slice_checks tc tk clearance ps ts) in
-    let newPoints = written (point_floats tc tk clearance) ps in
-    let newTriangles = written (triangle_numbers tc tk clearance) ts in
+    let new_points = written (point_floats tc tk clearance) ps in
+    let new_triangles = written (triangle_numbers tc tk clearance) ts in
     record {
       result = record { number = number; points = cond (drawable tc tk clearance) n 0; triangles = cond (drawable tc tk clearance) m 0 };
-      points = cond (eqb number 0) newPoints ps;
-      triangles = cond (eqb number 0) newTriangles ts;
+      points = cond (eqb number 0) new_points ps;
+      triangles = cond (eqb number 0) new_triangles ts;
     }
 
 -- the level of an edge of this length, or 11, which no edge has

@@ -82,13 +82,13 @@ Step = ℕ × ℕ
 
 -- The step that enters by edge i: a, b, c, d are the wet marks from corner i on, a dry and b wet. Seen from outside, wet corners lie to its
 -- right: it leaves by the next edge that joins a wet corner to a dry one. So with four odd edges each wet corner is cut off by its own step.
--- Where the rule for such a face, `wetCut`, says otherwise, each dry corner is: the step leaves by the edge before edge i.
+-- Where the rule for such a face, `wet_cut`, says otherwise, each dry corner is: the step leaves by the edge before edge i.
 abbrev pub step_in : Bool → ℕ → Bool → Bool → Bool → Bool → List Step
-step_in wetCut i a b c d = cond (not a && b) ((i, (i + cond c (cond d 3 2) (cond (d && not wetCut) 3 1)) % 4) ∷ []) []
+step_in wet_cut i a b c d = cond (not a && b) ((i, (i + cond c (cond d 3 2) (cond (d && not wet_cut) 3 1)) % 4) ∷ []) []
 
 -- the steps, each from an edge to an edge, of a face with the wet marks a, b, c, d at corners 0 to 3
 abbrev pub steps : Bool → Bool → Bool → Bool → Bool → List Step
-steps wetCut a b c d = step_in wetCut 0 a b c d ++ step_in wetCut 1 b c d a ++ step_in wetCut 2 c d a b ++ step_in wetCut 3 d a b c
+steps wet_cut a b c d = step_in wet_cut 0 a b c d ++ step_in wet_cut 1 b c d a ++ step_in wet_cut 2 c d a b ++ step_in wet_cut 3 d a b c
 
 -- document 01's rule for a face with four odd edges: each wet corner is cut off, whatever the face
 unfoldable pub saddle_cut : Axis → Place → ℕ → Bool

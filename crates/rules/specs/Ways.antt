@@ -128,12 +128,12 @@ unfolding fewest_steps way_of
 shown_over graph earlier start end way work =
     let number = first_of (earlier ++ way_checks graph start end way work) in
     let corners = get_or (fewest_steps graph start) end 0 in
-    let newWay = written (way_of graph start end) way in
-    let newWork = written (fewest_steps graph start) work in
+    let new_way = written (way_of graph start end) way in
+    let new_work = written (fewest_steps graph start) work in
     record {
       result = record { number = number; corners = cond (eqb number 0) corners 0 };
-      way = cond (eqb number 0) newWay way;
-      work = cond (eqb number 0 || eqb number 20) newWork work;
+      way = cond (eqb number 0) new_way way;
+      work = cond (eqb number 0 || eqb number 20) new_work work;
     }
 
 -- without amendments, after checks 1 to 8: "12 is not given here"

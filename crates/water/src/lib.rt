@@ -1,6 +1,7 @@
 // Six times the volume inside a drawing: coordinates taken down to sixteenths, the determinant of a triangle's corners taken from a reference, and the sum over
 // the triangles in a slice. Uses rounding and rules.
 #![tactic(auto)]
+
 ghost use Rattle.std.specs.Prelude.{◌≡◌, ◌+◌, ◌*◌, ◌<◌, ◌≤◌, not, T, pos, ◌-ℤ◌, ◌*ℤ◌, unsigned_abs};
 ghost use Rattle.rules.specs.Closing.{triangles_in};
 ghost use Rattle.rules.specs.Water.{sixteenths, determinant, sixfold_of, sixfold, beyond_box, InBox};

@@ -7,7 +7,6 @@ use Rattle.base.specs.Lists.{any}
 use Rattle.rules.specs.Survey.{entries, cells_of}
 use Rattle.octree.proofs.Records.{splits}
 use Rattle.cells.specs.Laid.{too_deep, LaidTo}
-use Rattle.cells.proofs.Laying.{own, leaf-step, leaf-shallow, split_deep, split-shallow, split-turn, children-fit, all-entered, none_deeper}
 use Rattle.cells.proofs.enter_children.Given as goal
 
 abbrev pub invariant-loop-n : goal.invariant-loop-n

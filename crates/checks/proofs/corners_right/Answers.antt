@@ -1,7 +1,6 @@
 -- `checks::corners_right` meets its contract: a corner that is missing decides, and else the marks.
 use native.Mathlib.Omega.{arith}
 use mathlib.Core.Path.{◌∙◌, sym, ap, refl}
-use borrow.Author.Tests.{not-true, not-false}
 use lib.ListN.{replicate}
 use lib.Dec.{ltb}
 use Rattle.base.specs.Lists.{all}

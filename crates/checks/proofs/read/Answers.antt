@@ -2,7 +2,6 @@
 use native.Mathlib.Omega.{arith}
 use mathlib.Core.Path.{◌∙◌, sym, ap, refl}
 use mathlib.Core.Bool.{not}
-use borrow.Author.Tests.{not-false}
 use Rattle.rules.specs.Outputs.{corner_limit}
 use Rattle.rules.specs.Survey.{record_size}
 use Rattle.octree.proofs.Accepted.{table_fits, tables_checked}

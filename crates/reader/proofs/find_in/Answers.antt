@@ -1,5 +1,5 @@
 -- `reader::find_in` meets its contract. In records that rise, a guessed record with the key is the one that the look-up gives.
-use Rattle.std.proofs.Common.{◌≡◌, ◌∙◌, ◌<◌, ◌≤◌, ℕ, arith}
+use Rattle.std.proofs.Common.{◌≡◌, ◌∙◌, arith}
 use Rattle.records.proofs.Search.{key_at, from_middle, is_at_lem, is_nowhere, keys_rise}
 use Rattle.reader.proofs.find_in.Goals as goal
 

@@ -1,5 +1,5 @@
 -- `reader::narrowed` meets its contract: the looks at three records, taken together.
-use Rattle.records.proofs.Search.{Look, round_below, round-from}
+use Rattle.records.proofs.Search.{round_below, round-from}
 use Rattle.reader.proofs.narrowed.Goals as goal
 
 pub returns-clause-by_index : goal.returns-clause-by_index

@@ -1,5 +1,5 @@
 -- `water::sum` meets its contract: one turn adds one triangle's determinant.
-use Rattle.std.proofs.Common.{◌≡◌, ◌+◌, ◌*◌, ◌^◌, ◌<◌, ◌≤◌, ◌+ℤ◌, nat_abs, sym, ap, ◌∙◌, arith, w64, SFits, to_z, of_z}
+use Rattle.std.proofs.Common.{◌≡◌, ◌+◌, ◌*◌, ◌^◌, ◌≤◌, ◌+ℤ◌, nat_abs, ap, ◌∙◌, arith, w64, SFits, to_z, of_z}
 use Rattle.std.proofs.Math.Facts.{to_z-of_z}
 use Rattle.rules.specs.Closing.{triangles_in}
 use Rattle.rules.specs.Water.{sixfold}

@@ -1,5 +1,5 @@
 -- `water::sum` meets its contract: before each turn the total is that of the triangles passed, and small enough.
-use Rattle.std.proofs.Common.{◌≡◌, ◌-◌, ◌*◌, ◌^◌, ◌≤◌, nat_abs, w64, of_z}
+use Rattle.std.proofs.Common.{◌≡◌, ◌-◌, ◌*◌, ◌^◌, ◌≤◌, nat_abs}
 use Rattle.rules.specs.Closing.{triangles_in}
 use Rattle.rules.specs.Water.{sixfold}
 use Rattle.water.specs.Corners.{reference_place}
