@@ -6,7 +6,6 @@ use mathlib.Core.List.{List}
 use native.Mathlib.Nat.{mul-le-mul}
 use native.Mathlib.Omega.{arith}
 use lib.Dec.{T}
-use lib.ListN.{length}
 use Rattle.base.specs.Lists.{any}
 use Rattle.base.specs.Grid.{Place, origin, Axis, X, Y, Z, along, axis_of, move, back, same}
 use Rattle.base.proofs.Lists.{position_of}

@@ -5,7 +5,7 @@ use mathlib.Core.Bool.{Bool, false, ◌&&◌, ◌||◌}
 use mathlib.Core.List.{List}
 use native.Mathlib.Omega.{arith}
 use lib.Ieee.{Float}
-use lib.ListN.{length, drop, drop_of_length-le}
+use lib.ListN.{drop, drop_of_length-le}
 use Rattle.base.specs.Lists.{any}
 use Rattle.base.proofs.Tests.{or_or, or_none}
 use Rattle.base.proofs.Below.{rest}

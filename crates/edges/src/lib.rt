@@ -3,6 +3,7 @@
 // Here and in the crates above the tables of a survey go together (`cells, corners, clearance, wets, slots`), and functions take them one by one: a struct that
 // holds slices can be had, but then each proof is a walk through the code by hand.
 #![tactic(auto)]
+
 ghost use Rattle.std.specs.Prelude.{◌≡◌, true, ◌&&◌, ◌||◌, [], ◌+◌, ◌*◌, ◌/◌, ◌%◌, ◌≤◌, ◌<◌, T, length, set};
 ghost use Rattle.base.specs.Lists.{bit};
 ghost use Rattle.base.specs.Grid.{Place, axis_of};

@@ -1,6 +1,7 @@
 // The place of a crossing point in binary32, one rounding for each operation, and the writing of points to the lent slice.
 // Uses base, octree, records, rounding and rules. proofs/ has the bound: a point never leaves its edge.
 #![tactic(auto)]
+
 ghost use Rattle.std.specs.Prelude.{◌≡◌, ◌+◌, ◌*◌, ◌≤◌, length};
 ghost use Rattle.base.specs.Grid.{along, axis_of};
 ghost use Rattle.rules.specs.Survey.{place_of};

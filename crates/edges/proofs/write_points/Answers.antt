@@ -52,10 +52,10 @@ slot_point-requires c =
       clearance_value = c.requires.clearance_value;
       levelled = c.requires.levelled;
       slot_bound = (
-          slot-few (goal.at.slot_point-requires c).In-loop-v,
-          slot-crossed c.args.cells.now c.args.corners.now c.args.clearance c.requires.clearance_value c.args.carriers.now c.requires.carriers
-              c.loop-v.v (point-inside (goal.at.slot_point-requires c).In-loop-v),
-        );
+        slot-few (goal.at.slot_point-requires c).In-loop-v,
+        slot-crossed c.args.cells.now c.args.corners.now c.args.clearance c.requires.clearance_value c.args.carriers.now c.requires.carriers
+            c.loop-v.v (point-inside (goal.at.slot_point-requires c).In-loop-v),
+      );
     }
 
 pub put_point-requires : goal.put_point-requires

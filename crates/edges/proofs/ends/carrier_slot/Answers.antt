@@ -35,11 +35,11 @@ upper_end-middle-requires c =
       corners_value = no_refusal tc tk x c.requires.clearance_value;
       levelled = c.requires.levelled;
       axis_bound = (
-          g,
-          o.inside,
-          lower_half tc tk x c.requires.clearance_value c.args.slots.now c.requires.levelled c.args.axis g c.loop-level.k c.loop-level.level (c.loop-level.level - 1) q o
-              (above c),
-        );
+        g,
+        o.inside,
+        lower_half tc tk x c.requires.clearance_value c.args.slots.now c.requires.levelled c.args.axis g c.loop-level.k c.loop-level.level (c.loop-level.level - 1) q o
+            (above c),
+      );
     }
 
 pub odd_half-k-requires : goal.odd_half-k-requires

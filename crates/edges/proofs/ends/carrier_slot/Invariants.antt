@@ -7,7 +7,6 @@ use Rattle.rules.specs.Edges.{carrier}
 use Rattle.rules.specs.Outputs.{survey_of}
 use Rattle.records.specs.Keys.{places_of}
 use Rattle.edges.specs.Tables.{place_at, OddEdge}
-use Rattle.edges.proofs.Readings.{corners}
 use Rattle.edges.proofs.ends.carrier_slot.Given as goal
 
 abbrev pub invariant-loop-level : goal.invariant-loop-level
