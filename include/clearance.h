@@ -9,8 +9,8 @@
  *
  * BUILDING
  *
- *     rt staticlib clearance
- *     cc -I include program.c target/staticlib/libclearance.a
+ *     (cd crates/clearance && rt lib)
+ *     cc -I include program.c crates/clearance/out/libclearance.a
  *
  * The archive is for x86-64 Linux and needs of the C library only memset and its like. examples/c/draw.c is a whole program.
  *

@@ -5,7 +5,8 @@
  *
  * The exit status is 0 if the survey is drawn and 1 if it is refused, or anything else is wrong. (The documents' program ends with 0 on refusals too.)
  *
- *     cc -I include examples/c/draw.c target/staticlib/libclearance.a -o target/draw && target/draw examples/twin
+ *     mkdir -p target
+ *     cc -I include examples/c/draw.c crates/clearance/out/libclearance.a -o target/draw && target/draw examples/twin
  */
 #include <errno.h>
 #include <inttypes.h>

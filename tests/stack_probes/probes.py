@@ -1,8 +1,9 @@
 #!/usr/bin/env python3
-"""Lists the functions of compiled files in which a new stack page is touched behind a conditional jump, or a jump through a table.
+"""Lists the functions of compiled files in which a loop touches new stack pages behind a conditional jump, or a jump through a table.
 
-The compiler's back end touches each page of a large frame by `sub $0x1000,%rsp`, from eight pages on in a loop that ends at the address in r11. Where that
-stands behind a branch, r11 may hold a value that is still wanted, and the function is compiled wrong. In the first instructions of a function it is harmless.
+The compiler's back end touches a large frame in steps of 3,072 bytes, so that no page is passed over: `sub $0xc00,%rsp`, then a store to where that points. A
+few steps are written out, and overwrite nothing. More are a loop that ends at the address in r11. Where that stands behind a branch, r11 may hold a value that
+is still wanted, and the function is compiled wrong. In the first instructions of a function it is harmless.
 
     probes.py FILE..    files that objdump reads: archives, objects, programs
 
@@ -15,7 +16,8 @@ import sys
 FUNCTION = re.compile(r"^[0-9a-f]+ <(.+)>:$")
 INSTRUCTION = re.compile(r"^ *([0-9a-f]+):\t(\S+) *(.*)$")
 TARGET = re.compile(r"^([0-9a-f]+)\b")
-PAGE = "$0x1000,%rsp"
+STEP = [(("sub", "subq"), "$0xc00,%rsp"), (("movq",), "$0x0,(%rsp)")]
+END_OF_LOOP = (("cmp", "cmpq"), "%r11,%rsp")
 
 
 def functions(path):
@@ -31,8 +33,9 @@ def functions(path):
     yield name, body
 
 
-def touches_page(operation, operands):
-    return operation in ("sub", "subq") and operands == PAGE
+def is_like(instructions, forms):
+    """Whether instructions have these forms, each some operations and the operands."""
+    return len(instructions) == len(forms) and all(it[1] in operations and it[2] == operands for it, (operations, operands) in zip(instructions, forms))
 
 
 def is_branch(operation, operands):
@@ -40,32 +43,34 @@ def is_branch(operation, operands):
     return operation.startswith("j") and (not operation.startswith("jmp") or operands.startswith("*"))
 
 
-def goes_back_to(pages, operands):
+def goes_back_to(loops, operands):
     """Whether a jump goes back to the first instruction of a loop that touches pages."""
     target = TARGET.match(operands)
-    return bool(target) and int(target[1], 16) in pages
+    return bool(target) and int(target[1], 16) in loops
 
 
-def pages_touched(body):
-    """How many instructions touch a page, and whether one of them stands behind a branch that is not its own loop's."""
-    pages, branched, behind = set(), False, False
-    for address, operation, operands in body:
-        if touches_page(operation, operands):
-            pages.add(address)
-            behind = behind or branched
-        elif is_branch(operation, operands) and not goes_back_to(pages, operands):
+def steps_taken(body):
+    """How many steps touch a page, and whether a loop of them stands behind a branch that is not its own or that of another such loop."""
+    steps, loops, branched, behind = 0, set(), False, False
+    for at, (address, operation, operands) in enumerate(body):
+        if is_like(body[at : at + 2], STEP):
+            steps += 1
+            if is_like(body[at + 2 : at + 3], [END_OF_LOOP]):
+                loops.add(address)
+                behind = behind or branched
+        elif is_branch(operation, operands) and not goes_back_to(loops, operands):
             branched = True
-    return len(pages), behind
+    return steps, behind
 
 
 def look(path):
     """Prints the functions at fault in a file; says whether any page is touched in it, and whether there was a fault."""
     touched = fault = False
     for name, body in functions(path):
-        pages, behind = pages_touched(body)
-        touched = touched or pages > 0
+        steps, behind = steps_taken(body)
+        touched = touched or steps > 0
         if behind:
-            print(f"{path}: {name}: a stack page is touched behind a conditional jump or a jump through a table")
+            print(f"{path}: {name}: a loop touches stack pages behind a conditional jump or a jump through a table")
             fault = True
     return touched, fault
 

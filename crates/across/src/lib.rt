@@ -1,5 +1,6 @@
 // What lies across the sides of cells: a table filled from the parents down, without a search. Uses records.
 #![tactic(auto)]
+
 ghost use Rattle.std.specs.Prelude.{◌≡◌, true, false, ◌+◌, ◌*◌, ◌/◌, ◌≤◌, ◌<◌, length, get_or};
 ghost use Rattle.base.specs.Lists.{any};
 ghost use Rattle.rules.specs.Survey.{entry, entries, cells_of};

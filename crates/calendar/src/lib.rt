@@ -1,6 +1,7 @@
 // The call that draws by a calendar: document 02, request 7. One pass over the calendar gives the clearance in force at a minute, or 16 or 17; the drawing is
 // drawing's own at that clearance. Uses records, checks and drawing.
 #![tactic(auto)]
+
 ghost use Rattle.std.specs.Prelude.{◌≡◌, true, ◌&&◌, [], ◌∷◌, ◌++◌, ℕ, ◌+◌, ◌*◌, ◌≤◌, leb, length};
 ghost use Rattle.rules.specs.Closing.{ClosedIn};
 ghost use Rattle.rules.specs.Resounding.{amended, draw_amended, check_order};

@@ -1,5 +1,6 @@
 // The call that shows one way for a convoy: document 02, request 9. It is the way for one boat at the greatest clearance. Uses records, checks and ways.
 #![tactic(auto)]
+
 ghost use Rattle.std.specs.Prelude.{◌≡◌, true, [], ◌∷◌, ◌++◌, ℕ, ◌≤◌, length};
 ghost use Rattle.rules.specs.Outputs.{first_of};
 ghost use Rattle.rules.specs.Resounding.{amended, check_order};

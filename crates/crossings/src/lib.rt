@@ -1,6 +1,7 @@
 // The points of every cell's twelve edges and its wet corners, as one table: what the faces of leaves are drawn from. Uses records, cells and
 // edges, and the table that octants describes.
 #![tactic(auto)]
+
 ghost use Rattle.std.specs.Prelude.{◌≡◌, true, map, ◌*◌, ◌/◌, ◌%◌, ◌≤◌, ◌<◌, length};
 ghost use Rattle.rules.specs.Survey.{corners_of, leaf_of, wet};
 ghost use Rattle.rules.specs.Outputs.{accepted, survey_of};

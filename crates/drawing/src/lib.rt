@@ -2,6 +2,7 @@
 // slices that are too short, the points. The slices are written only where both have room. Uses checks, amendments, edges, twins, across, crossings and
 // triangles.
 #![tactic(auto)]
+
 ghost use Rattle.std.specs.Prelude.{◌≡◌, true, [], ◌∷◌, ◌*◌, ◌≤◌, ltb, length};
 ghost use Rattle.rules.specs.Outputs.{first_of, table_checks, accepted, drawing_checks, drawable, draw};
 ghost use Rattle.rules.specs.Resounding.{amended, draw_amended};

@@ -1,5 +1,6 @@
 // The edge enquiry: whether an edge is even or crossing, where, and which end is wet. Uses checks, amendments and edges.
 #![tactic(auto)]
+
 ghost use Rattle.std.specs.Prelude.{◌≡◌};
 ghost use Rattle.rules.specs.Outputs.{survey_of, level_of, enquiry, asked, answered, StaysOn};
 ghost use Rattle.rules.specs.Resounding.{amended, enquiry_amended};

@@ -1,6 +1,7 @@
 // The face steps of a leaf: small faces by going down into the cell across, and the steps in each, recorded in the leaf's trace.
 // Uses digits, records and trace, and the tables that across and crossings describe.
 #![tactic(auto)]
+
 ghost use Rattle.std.specs.Prelude.{◌≡◌, ◌+◌, ◌*◌, ◌/◌, ◌≤◌, ◌<◌, length, get_or};
 ghost use Rattle.base.specs.Lists.{bit};
 ghost use Rattle.trace.specs.Trace.{recorded};

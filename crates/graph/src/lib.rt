@@ -1,6 +1,7 @@
 // The search for ways over the corners of a survey: document 02, request 8. It reads a table of six links for each corner, and knows nothing of cells or
 // soundings. A corner's rank is its fewest steps plus one, from where a search begins; 0 while it has none. Uses base and rules.
 #![tactic(auto)]
+
 ghost use Rattle.std.specs.Prelude.{◌≡◌, ◌&&◌, cond, ◌++◌, ◌+◌, ◌≤◌, ◌<◌, eqb, ltb, length, get_or, take, drop, replicate};
 ghost use Rattle.base.specs.Lists.{bit};
 ghost use Rattle.rules.specs.Ways.{fewest_steps};

@@ -1,6 +1,7 @@
 // One pass over the leaves by record number: each leaf's face steps, its loops, its triangles into what is lent. Uses records, faces and loops, and the tables
 // that trace, across, crossings and edges describe.
 #![tactic(auto)]
+
 ghost use Rattle.std.specs.Prelude.{◌≡◌, ◌*◌, ◌/◌, ◌<◌, min, length};
 ghost use Rattle.rules.specs.Steps.{all_triangles};
 ghost use Rattle.cells.specs.Laid.{cell_at};

@@ -1,5 +1,6 @@
 // The loops of a leaf, each from its lowest point on, and their triangles, written into what is lent. Uses trace.
 #![tactic(auto)]
+
 ghost use Rattle.std.specs.Prelude.{◌≡◌, ◌&&◌, cond, [], ◌∷◌, ℕ, ◌+◌, ◌*◌, ◌<◌, eqb, ltb, length, set};
 ghost use Rattle.std.proofs.lemmas.List.Edits.{sets};
 ghost use Rattle.trace.specs.Trace.{mark_at, met_at, met_count};

@@ -24,7 +24,7 @@ use Rattle.base.proofs.Lists.{count_in}
 use Rattle.base.proofs.Sums.{sum_one, sum_same, sum-add, sum-keep, sum-keep-le, count-once}
 use Rattle.base.proofs.Counts.{in_often, length-count}
 use Rattle.base.proofs.Below.{any_append}
-use Rattle.rules.specs.Steps.{Step, met}
+use Rattle.rules.specs.Steps.{Step}
 use Rattle.trace.specs.Trace.{Traced, next_at, mark_at, met_at, met_count, mark_of, meets, end_from, leave_at, meet_at, record_one, recorded}
 
 or_true : (a : Bool) → a || true ≡ true

@@ -1,5 +1,6 @@
 // The scratch of one leaf, in one table: where the face steps lead from each point, which points they meet, and a list of these. Uses rules.
 #![tactic(auto)]
+
 ghost use Rattle.std.specs.Prelude.{◌≡◌, ◌+◌, ◌*◌, ◌≤◌, ◌<◌, length};
 ghost use Rattle.trace.specs.Trace.{leave_at, meet_at, record_one};
 

@@ -1,6 +1,7 @@
 // All triangles of a survey: drawn leaf by leaf into a scratch, which tells how many there are, and written where that is asked for and the slice has room.
 // Uses leaves and the tables that it describes.
 #![tactic(auto)]
+
 ghost use Rattle.std.specs.Prelude.{◌≡◌, ◌++◌, ◌≤◌, length, take, drop};
 ghost use Rattle.rules.specs.Steps.{all_triangles};
 ghost use Rattle.rules.specs.Outputs.{survey_of};

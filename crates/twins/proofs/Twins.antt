@@ -3,7 +3,6 @@ use Prim.Native.Nat.{ℕ, zero, suc, ◌+◌, ◌^◌, ◌≤◌, ◌<◌}
 use mathlib.Core.Path.{◌≡◌, refl, sym, ap, ◌∙◌, subst}
 use mathlib.Core.Bool.{Bool, true, false, cond}
 use mathlib.Core.List.{List}
-use mathlib.Core.Option.{none}
 use native.Mathlib.Omega.{arith}
 use lib.Dec.{T}
 use lib.Ieee.{Float}
@@ -17,7 +16,6 @@ use Rattle.records.specs.Keys.{places_of}
 use Rattle.octree.proofs.Halves.{move-move}
 use Rattle.edges.specs.Tables.{place_at, OddEdge, UpperEnd, Sought}
 use Rattle.twins.specs.Risen.{Risen}
-use Rattle.edges.proofs.Find.{found}
 use Rattle.edges.proofs.Levels.{Edged}
 use Rattle.edges.proofs.Readings.{edges_law}
 use Rattle.twins.proofs.Climbing.{upper-room, twin-none, twin-up, twin-found, else_none, else_some, even_halves, back-move}

@@ -1,5 +1,6 @@
 // Twins of crossing points: the table of each point's twin, by climbing from its edge to the first even edge above. Uses records, cells, places and edges.
 #![tactic(auto)]
+
 ghost use Rattle.std.specs.Prelude.{◌≡◌, true, length};
 ghost use Rattle.rules.specs.Edges.{point_edges};
 ghost use Rattle.rules.specs.Outputs.{accepted, survey_of};

@@ -24,7 +24,7 @@ use Rattle.rules.specs.Edges.{point_edges}
 use Rattle.rules.specs.Steps.{Triangle, all_triangles}
 use Rattle.rules.specs.Outputs.{numbers, first_of, table_checks, survey_checks, checks, accepted, drawing_checks, drawable, survey_of, point_floats}
 use Rattle.rules.specs.Outputs.{slice_checks, draw}
-use Rattle.rules.specs.Water.{sixfold_of, sixfold, beyond_box, volume_checks, volume}
+use Rattle.rules.specs.Water.{sixfold_of, beyond_box, volume_checks, volume}
 use Rattle.rules.specs.Water.{AnyReference, SameAnswer, AllTakenDown, NumbersBelow, FewTriangles, NothingLost}
 use Rattle.octree.proofs.Accepted.{first-none}
 use Rattle.closing.proofs.Few.{triangles-few}

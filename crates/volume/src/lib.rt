@@ -1,6 +1,7 @@
 // The call for the volume: a drawing, with check 13 before those of the slices, and the sum over what then stands in them. Uses checks, amendments, drawing and
 // water.
 #![tactic(auto)]
+
 ghost use Rattle.std.specs.Prelude.{◌≡◌, not, T, pos, length};
 ghost use Rattle.base.specs.Grid.{Place};
 ghost use Rattle.rules.specs.Outputs.{first_of, table_checks};

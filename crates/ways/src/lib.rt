@@ -1,6 +1,7 @@
 // The call that shows a way: document 02, request 8. It makes the table of links from the slots of edges, and searches it. Uses checks, amendments, edges and
 // graph.
 #![tactic(auto)]
+
 ghost use Rattle.std.specs.Prelude.{◌≡◌, true, [], ◌+◌, ◌*◌, ◌≤◌, ◌<◌, length, replicate};
 ghost use Rattle.rules.specs.Survey.{record_count};
 ghost use Rattle.rules.specs.Outputs.{accepted, first_of};

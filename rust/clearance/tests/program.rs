@@ -17,15 +17,15 @@ fn root() -> PathBuf {
     Path::new(env!("CARGO_MANIFEST_DIR")).join("../..")
 }
 
-/// The compiled program; `rt check draw` writes it.
+/// The compiled program; `rt run` writes it, and runs it where there is no survey.
 fn program() -> PathBuf {
     let made = Command::new("rt")
-        .args(["check", "draw"])
-        .current_dir(root())
+        .arg("run")
+        .current_dir(root().join("crates/draw"))
         .output()
         .expect("the Rattle toolchain");
-    assert!(made.status.success(), "rt check draw failed");
-    root().join("target/bin/draw")
+    assert!(made.status.success(), "rt run failed in crates/draw");
+    root().join("crates/draw/out/draw")
 }
 
 /// What the program prints in a directory.

@@ -15,12 +15,11 @@ pub fill_box-requires : goal.fill_box-requires
 fill_box-requires c = omega (arith, some-record c.args.cells.now c.requires.cells_value)
 
 pub loop-n-init : goal.loop-n-init
-loop-n-init c =
-    (
-      omega arith,
-      refl,
-      box_filled c.args.cells.now (→true c.requires.cells_value) (→false c.requires.cells_value_2) c.args.across.now _ c.requires.cells_len_bound.1 c.fill_box.ensures,
-    )
+loop-n-init c = (
+  omega arith,
+  refl,
+  box_filled c.args.cells.now (→true c.requires.cells_value) (→false c.requires.cells_value_2) c.args.across.now _ c.requires.cells_len_bound.1 c.fill_box.ensures,
+)
 
 pub loop-n-preserved-then-first-eq0 : goal.loop-n-preserved-then-first-eq0
 loop-n-preserved-then-first-eq0 c =

@@ -23,13 +23,12 @@ fill_side-requires c =
     }
 
 pub loop-i-preserved : goal.loop-i-preserved
-loop-i-preserved c =
-    (
-      omega arith,
-      c.fill_side.ensures.same_length ∙ c.loop-i.invariant.1,
-      sides-more c.args.cells.now (→true c.requires.cells_value) (→false c.requires.cells_value_2) c.args.n c.requires.cells_len_bound.1 (λ z. omega (arith, c.requires.first_value))
-          c.loop-i.across c.args.first c.loop-i.i c.requires.first_value.0 (omega arith) c.loop-i.invariant.2 _ _ c.first_across-far.ensures c.fill_side.ensures,
-    )
+loop-i-preserved c = (
+  omega arith,
+  c.fill_side.ensures.same_length ∙ c.loop-i.invariant.1,
+  sides-more c.args.cells.now (→true c.requires.cells_value) (→false c.requires.cells_value_2) c.args.n c.requires.cells_len_bound.1 (λ z. omega (arith, c.requires.first_value))
+      c.loop-i.across c.args.first c.loop-i.i c.requires.first_value.0 (omega arith) c.loop-i.invariant.2 _ _ c.first_across-far.ensures c.fill_side.ensures,
+)
 
 pub returns : goal.returns
 returns c =

@@ -1,5 +1,4 @@
 -- `calendar::draw` meets its contract: what the calendar reads decides which way it goes, and the other promises follow from the equation.
-use mathlib.Core.Path.{◌∙◌, sym}
 use Rattle.calendar.proofs.Outcome.{refuses, draws, all_promises}
 use Rattle.calendar.proofs.draw.Goals as goal
 

@@ -32,8 +32,8 @@ loop-k-preserved c =
     ∙ c.if-not-follows.false in
     let held = ap (holds_at a.minute) (sym read) ∙ sym c.holds.ensures in
     let new : c.if-holds.reading ≡ noted a.minute l.reading (period_at t l.k) = elim c.if-holds.branch [
-      then-holds w ↦ w.reading-is ∙ noted_now a.minute l.reading c.period_at-p.result (period_at t l.k) read (held ∙ w.if-holds.true)
-    | else-holds w ↦ w.reading-is ∙ noted_not a.minute l.reading (period_at t l.k) (held ∙ w.if-holds.false)
+      | then-holds w ↦ w.reading-is ∙ noted_now a.minute l.reading c.period_at-p.result (period_at t l.k) read (held ∙ w.if-holds.true)
+      | else-holds w ↦ w.reading-is ∙ noted_not a.minute l.reading (period_at t l.k) (held ∙ w.if-holds.false)
     ] in (
       l.invariant.0,
       omega (arith, l.invariant.0),

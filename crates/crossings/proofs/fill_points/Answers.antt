@@ -18,12 +18,11 @@ pub bounds-crossings-i : goal.bounds-crossings-i
 bounds-crossings-i c = omega (arith, c.loop-i.invariant.2.room)
 
 pub loop-i-preserved : goal.loop-i-preserved
-loop-i-preserved c =
-    (
-      omega arith,
-      length-set c.loop-i.crossings _ _ ∙ c.loop-i.invariant.1,
-      points-more _ c.args.cells.now c.loop-i.i c.loop-i.crossings _ (omega arith) c.loop-i.invariant.2 c.crossing.ensures,
-    )
+loop-i-preserved c = (
+  omega arith,
+  length-set c.loop-i.crossings _ _ ∙ c.loop-i.invariant.1,
+  points-more _ c.args.cells.now c.loop-i.i c.loop-i.crossings _ (omega arith) c.loop-i.invariant.2 c.crossing.ensures,
+)
 
 pub shape_of-crossings : goal.shape_of-crossings
 shape_of-crossings c = c.loop-i.invariant.1

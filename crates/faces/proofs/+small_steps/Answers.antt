@@ -63,13 +63,20 @@ small_steps-requires t c =
     let a = c.args in
     let k = c.row_corner in
     let (up, inside) = part-inside a.cells.now a.crossings.now c.requires.roomy.entries_right_lem a.row a.m c.requires.row_bound.1
-    c.cell_entry-first.result c.cell_entry-first.ensures c.if-first-eq0.false c.quarter.result k.result c.quarter.ensures.1 k.ensures.0 in
-    (omega (arith, up, inside), (c.requires.roomy, ((c.requires.row_bound.0, inside),
+    c.cell_entry-first.result c.cell_entry-first.ensures c.if-first-eq0.false c.quarter.result k.result c.quarter.ensures.1 k.ensures.0 in (
+      omega (arith, up, inside),
+      (
+        c.requires.roomy,
+        (
+          (c.requires.row_bound.0, inside),
           subst (λ k. Fits (small_table_steps a.cells.now a.crossings.now a.row (c.cell_entry-first.result + k)) (length c.loop-i.trace))
               (sym k.ensures.0)
               (next_fits (steps t (goal.at.small_steps-requires t c).Else-first-eq0) quarters c.loop-i.i _ _ c.loop-i.invariant (omega (arith, c.loop-i-test.true)) c.quarter.result
               c.quarter.ensures.0
-              (subst (λ ss. Fits ss (length a.trace.now)) (sym (all-steps t (goal.at.small_steps-requires t c).Else-first-eq0)) c.requires.fits)))))
+              (subst (λ ss. Fits ss (length a.trace.now)) (sym (all-steps t (goal.at.small_steps-requires t c).Else-first-eq0)) c.requires.fits)),
+        ),
+      ),
+    )
 
 pub loop-i-preserved : goal.loop-i-preserved
 loop-i-preserved t c =

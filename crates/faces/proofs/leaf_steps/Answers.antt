@@ -30,7 +30,7 @@ side_steps-requires c =
       reaching = c.requires.reaching;
       i_bound = more;
       fits = next_fits (steps (goal.at.side_steps-requires c).At-loop-i) (count 0 6) i _ _ c.loop-i.invariant more i (count_at 6 i more)
-              (subst (λ ss. Fits ss (length c.args.trace.now)) (sym (all-steps (goal.at.side_steps-requires c).At-loop-i)) c.requires.fits);
+          (subst (λ ss. Fits ss (length c.args.trace.now)) (sym (all-steps (goal.at.side_steps-requires c).At-loop-i)) c.requires.fits);
     }
 
 pub loop-i-preserved : goal.loop-i-preserved

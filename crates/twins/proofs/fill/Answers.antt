@@ -37,14 +37,13 @@ twin_of-requires c =
     }
 
 pub loop-v-preserved : goal.loop-v-preserved
-loop-v-preserved c =
-    (
-      omega arith,
-      omega arith,
-      simp length-set c.loop-v.invariant.2,
-      filled_more (twin_of (survey_of c.args.cells.now c.args.corners.now c.args.clearance)) c.loop-v.twins c.loop-v.v c.twin_of.result
-          (omega arith) c.loop-v.invariant.3 c.twin_of.ensures,
-    )
+loop-v-preserved c = (
+  omega arith,
+  omega arith,
+  simp length-set c.loop-v.invariant.2,
+  filled_more (twin_of (survey_of c.args.cells.now c.args.corners.now c.args.clearance)) c.loop-v.twins c.loop-v.v c.twin_of.result
+      (omega arith) c.loop-v.invariant.3 c.twin_of.ensures,
+)
 
 pub returns : goal.returns
 returns c =

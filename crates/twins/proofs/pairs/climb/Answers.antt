@@ -81,11 +81,11 @@ edge_above-above-requires c =
       clearance_value = c.requires.clearance_value;
       levelled = c.requires.numbered.levelled;
       axis_bound = (
-          omega (arith, c.loop-k.invariant.3, c.requires.slot_bound.0),
-          subst (λ (a : ℕ). OddEdge c.args.cells.now c.args.corners.now c.args.clearance (axis_of a) c.loop-k.k c.loop-k.level) n
-              c.loop-k.invariant.0.odd-edge,
-          subst (λ (a : ℕ). UpperEnd c.args.corners.now (axis_of a) c.loop-k.k c.loop-k.level c.loop-k.end) n c.loop-k.invariant.1,
-        );
+        omega (arith, c.loop-k.invariant.3, c.requires.slot_bound.0),
+        subst (λ (a : ℕ). OddEdge c.args.cells.now c.args.corners.now c.args.clearance (axis_of a) c.loop-k.k c.loop-k.level) n
+            c.loop-k.invariant.0.odd-edge,
+        subst (λ (a : ℕ). UpperEnd c.args.corners.now (axis_of a) c.loop-k.k c.loop-k.level c.loop-k.end) n c.loop-k.invariant.1,
+      );
     }
 
 pub returns-then-k-count : goal.returns-then-k-count
@@ -116,13 +116,13 @@ point_of-requires c =
       wets = c.requires.wets;
       numbered = c.requires.numbered;
       axis_bound = (
-            omega (arith, c.loop-k.invariant.3, c.requires.slot_bound.0),
-            subst (λ (a : ℕ). OddEdge c.args.cells.now c.args.corners.now c.args.clearance (axis_of a) c.edge_above-above.result.other
-                c.loop-k.level) (sym c.loop-k.invariant.3)
-                (other_edge c.args.cells.now c.args.corners.now c.args.clearance c.requires.clearance_value (axis_of (c.args.slot / 4872))
-                (c.args.slot % 4872) (lowest_at c.args.slots.now c.args.slot) _ _ _ _ _ c.args.v c.loop-k.invariant.0 (risen (goal.at.point_of-requires c).After-edge_above-above) h
-                (parity (goal.at.point_of-requires c).After-edge_above-above h false (even c))),
-          );
+        omega (arith, c.loop-k.invariant.3, c.requires.slot_bound.0),
+        subst (λ (a : ℕ). OddEdge c.args.cells.now c.args.corners.now c.args.clearance (axis_of a) c.edge_above-above.result.other
+            c.loop-k.level) (sym c.loop-k.invariant.3)
+            (other_edge c.args.cells.now c.args.corners.now c.args.clearance c.requires.clearance_value (axis_of (c.args.slot / 4872))
+            (c.args.slot % 4872) (lowest_at c.args.slots.now c.args.slot) _ _ _ _ _ c.args.v c.loop-k.invariant.0 (risen (goal.at.point_of-requires c).After-edge_above-above) h
+            (parity (goal.at.point_of-requires c).After-edge_above-above h false (even c))),
+      );
     }
 
 pub returns-then-wets-k : goal.returns-then-wets-k

@@ -5,7 +5,6 @@ use mathlib.Core.Path.{◌≡◌}
 use Rattle.base.specs.Grid.{axis_of}
 use Rattle.rules.specs.Survey.{record_count}
 use Rattle.edges.specs.Tables.{lowest_at, UpperEnd}
-use Rattle.edges.proofs.Readings.{corners}
 use Rattle.twins.proofs.Twins.{Climbed}
 use Rattle.twins.proofs.pairs.climb.Given as goal
 

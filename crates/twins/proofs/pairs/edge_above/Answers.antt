@@ -49,12 +49,11 @@ pub is_upper-requires : goal.is_upper-requires
 is_upper-requires c = ((odd-edge (goal.at.is_upper-requires c).Start).inside, level-low (goal.at.is_upper-requires c).Start)
 
 pub step_back-key-requires : goal.step_back-key-requires
-step_back-key-requires c =
-    (
-      back-room (axis_of c.args.axis) _ c.args.level _ (key-is (goal.at.step_back-key-requires c).Start _ c.key_at.ensures)
-          (sym c.is_upper.ensures ∙ c.if-is_upper.true),
-      level-low (goal.at.step_back-key-requires c).Start,
-    )
+step_back-key-requires c = (
+  back-room (axis_of c.args.axis) _ c.args.level _ (key-is (goal.at.step_back-key-requires c).Start _ c.key_at.ensures)
+      (sym c.is_upper.ensures ∙ c.if-is_upper.true),
+  level-low (goal.at.step_back-key-requires c).Start,
+)
 
 pub overflow_add-level : goal.overflow_add-level
 overflow_add-level c = omega (arith, level-low (goal.at.overflow_add-level c).Start)
@@ -105,10 +104,10 @@ upper_end-requires c =
       corners_value = no_refusal (tc (goal.at.upper_end-requires c).Start) (tk (goal.at.upper_end-requires c).Start) x c.requires.clearance_value;
       levelled = c.requires.levelled;
       axis_bound = (
-          g,
-          u.inside,
-          upper_half (tc (goal.at.upper_end-requires c).Start) (tk (goal.at.upper_end-requires c).Start) x c.requires.clearance_value (axis_of c.args.axis) c.args.k c.args.level c.args.end u (odd-edge (goal.at.upper_end-requires c).Start).is_edge_lem whole,
-        );
+        g,
+        u.inside,
+        upper_half (tc (goal.at.upper_end-requires c).Start) (tk (goal.at.upper_end-requires c).Start) x c.requires.clearance_value (axis_of c.args.axis) c.args.k c.args.level c.args.end u (odd-edge (goal.at.upper_end-requires c).Start).is_edge_lem whole,
+      );
     }
 
 pub returns : goal.returns

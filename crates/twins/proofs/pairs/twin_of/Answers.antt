@@ -26,10 +26,10 @@ climb-requires c =
       wets = c.requires.wets;
       numbered = c.requires.numbered;
       slot_bound = (
-            inside (goal.at.climb-requires c).Start,
-            slot-crossed c.args.cells.now c.args.corners.now c.args.clearance c.requires.clearance_value c.args.carriers.now c.requires.carriers
-                c.args.v c.requires.v_in_bounds.0,
-          );
+        inside (goal.at.climb-requires c).Start,
+        slot-crossed c.args.cells.now c.args.corners.now c.args.clearance c.requires.clearance_value c.args.carriers.now c.requires.carriers
+            c.args.v c.requires.v_in_bounds.0,
+      );
     }
 
 pub returns : goal.returns
