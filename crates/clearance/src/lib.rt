@@ -1,6 +1,7 @@
 // What is exported to C and Rust: the calls of document 01, with what the requests of document 02 add, thin over the proved ones. A slice passes as a
 // pointer and a length.
 #![tactic(auto)]
+
 ghost use Rattle.std.specs.Prelude.{◌≡◌, not, ℕ, T};
 ghost use Rattle.base.specs.Grid.{Place};
 ghost use Rattle.rules.specs.WhichEnd.{end_number};
