@@ -82,12 +82,12 @@ fn fill_side(cells: &[u8], across: &mut [u16], first: usize, far: usize, i: usiz
 // Fills all sides of the children of the split cell n. The table has all records up to them already.
 fn fill_children(cells: &[u8], across: &mut [u16], n: usize, first: usize)
     requires cells_value { entries_right 0 0 (entries cells.now) ≡ true }
-    requires cells_value_2 { any too_deep (cells_of cells.now) ≡ false }
+    requires shallow { any too_deep (cells_of cells.now) ≡ false }
     requires cells_len_bound { (length cells.now ≤ 8196) × (n < length cells.now / 4) }
     requires first_value { (first ≡ entry cells.now n) × (0 < first) }
     requires beyond_to { BeyondTo cells.now across.old first }
     ensures across_len_unchanged { length across.new ≡ length across.old }
-    ensures beyond_to_2 { BeyondTo cells.now across.new (first + 8) }
+    ensures filled { BeyondTo cells.now across.new (first + 8) }
 {
     let mut i: usize = 0;
     while i < 6 {
@@ -112,7 +112,7 @@ fn fill_box(across: &mut [u16])
 // The table of the split cells across all sides of all cells. Children come after their parents, so that one pass is enough.
 pub fn fill(cells: &[u8], across: &mut [u16])
     requires cells_value { entries_right 0 0 (entries cells.now) ≡ true }
-    requires cells_value_2 { any too_deep (cells_of cells.now) ≡ false }
+    requires shallow { any too_deep (cells_of cells.now) ≡ false }
     requires cells_len_bound { (length cells.now ≤ 8196) × (6 * (length cells.now / 4) ≤ length across.old) }
     ensures { Beyond cells.now across.new }
 {

@@ -39,7 +39,7 @@ fn resound(corners: &[u8], amendments: &[u8], n: usize, table: &mut [u8]) -> boo
     requires n_bound { n < record_count amendments.now }
     requires amended_by { AmendedBy corners.now amendments.now n table.old }
     ensures value { result ≡ unlisted corners.now (record_bytes amendments.now n) }
-    ensures amended_by_2 { result ≡ false → AmendedBy corners.now amendments.now (n + 1) table.new }
+    ensures one_more { result ≡ false → AmendedBy corners.now amendments.now (n + 1) table.new }
 {
     let k = reader::find(corners, records::key_at(amendments, n));
     if k >= corners.len() / records::SIZE {

@@ -43,8 +43,8 @@ fn narrowed(corners: &[u8], count: usize, key: u64, low: usize, size: usize) -> 
     requires ordered { Ordered corners.now count }
     requires low_le_count { (low ≤ count) × (size ≤ count) }
     ensures upper_bound { result ≤ count }
-    ensures by_index { (j : ℕ) → low ≤ j → j < result → key_of (place_of (corner_record corners.now j)) < key }
-    ensures by_index_2 { (j : ℕ) → result + size ≤ j → j < low + 4 * size + 3 → j < count → key ≤ key_of (place_of (corner_record corners.now j)) }
+    ensures smaller { (j : ℕ) → low ≤ j → j < result → key_of (place_of (corner_record corners.now j)) < key }
+    ensures no_smaller { (j : ℕ) → result + size ≤ j → j < low + 4 * size + 3 → j < count → key ≤ key_of (place_of (corner_record corners.now j)) }
 {
     let step = size + 1;
     let first = low + size;

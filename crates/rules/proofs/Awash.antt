@@ -3,7 +3,7 @@
 use Prim.Native.Nat.{ℕ}
 use mathlib.Core.List.{List, [], ◌∷◌}
 use Rattle.base.specs.Grid.{X}
-use Rattle.rules.proofs.Surveys.{place, at, minus_zero, one, minus_one, greatest, least, not_aNumber}
+use Rattle.rules.proofs.Surveys.{place, at, minus_zero, one, minus_one, greatest, least, not_a_number}
 use Rattle.rules.proofs.Surveys.{leaf, split, drawing, asking, reckoning, Example, example, example_at, untouched, Right, right, Each, each}
 use Rattle.rules.proofs.Starred.{f1024}
 
@@ -28,7 +28,7 @@ awash =
     example leaf (at (place 0 0 0 ∷ []) one 0) (reckoning X (place 0 0 0) 10) (1 ∷ 1 ∷ 1 ∷ 0 ∷ f1024 ∷ 0 ∷ 0 ∷ f1024 ∷ 0 ∷ 0 ∷ []) ∷
     example_at minus_zero leaf (at (place 1024 0 0 ∷ []) one 0) (reckoning X (place 0 0 0) 10) (1 ∷ 1 ∷ 1 ∷ minus_zero ∷ 0 ∷ 0 ∷ 0 ∷ 0 ∷ 0 ∷ 0 ∷ []) ∷
     -- an even edge, both ends awash: 0 / 0 is no t, and there is no place
-    example leaf (λ p. 0) (reckoning X (place 0 0 0) 10) (1 ∷ 1 ∷ 0 ∷ not_aNumber ∷ f1024 ∷ 0 ∷ 0 ∷ not_aNumber ∷ 0 ∷ 0 ∷ []) ∷
+    example leaf (λ p. 0) (reckoning X (place 0 0 0) 10) (1 ∷ 1 ∷ 0 ∷ not_a_number ∷ f1024 ∷ 0 ∷ 0 ∷ not_a_number ∷ 0 ∷ 0 ∷ []) ∷
     -- by the least number above the clearance, t is 1
     example leaf (at (place 0 0 0 ∷ []) above_zero minus_one) (reckoning X (place 0 0 0) 10) (1 ∷ 1 ∷ 1 ∷ one ∷ f1024 ∷ 0 ∷ 0 ∷ 0 ∷ 0 ∷ 0 ∷ []) ∷ []
 

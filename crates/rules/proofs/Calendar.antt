@@ -8,7 +8,7 @@ use lib.ListN.{take}
 use Rattle.base.specs.Lists.{all}
 use Rattle.base.specs.Grid.{origin}
 use Rattle.rules.specs.Calendar.{draw_by_calendar}
-use Rattle.rules.proofs.Surveys.{bytes_of, place, Soundings, at, one, minus_one, least, not_aNumber, resounded, corner_table, leaf}
+use Rattle.rules.proofs.Surveys.{bytes_of, place, Soundings, at, one, minus_one, least, not_a_number, resounded, corner_table, leaf}
 
 -- a survey, a calendar, a minute, and the number that the call returns
 pub record Dated : Type 0 where
@@ -23,7 +23,7 @@ dated t minute n = record { soundings = at [] one minus_one; amendments = []; ca
 
 -- where a sounding is not a number, with amendments
 abbrev unsound : List ℕ → List ℕ → ℕ → ℕ → Dated
-unsound ta t minute n = record { soundings = at (origin ∷ []) not_aNumber minus_one; amendments = ta; calendar = t; minute = minute; number = n }
+unsound ta t minute n = record { soundings = at (origin ∷ []) not_a_number minus_one; amendments = ta; calendar = t; minute = minute; number = n }
 
 -- a record: from, until and the bits of its clearance
 abbrev period : ℕ → ℕ → ℕ → List ℕ
@@ -70,13 +70,13 @@ calendars =
     dated (plain 10 20 ++ 0 ∷ []) 10 16 ∷
     -- 16 before 17, 8 and 12, and behind the record in force too
     dated (plain 10 20 ++ plain 19 30) 40 16 ∷
-    dated (period 10 20 not_aNumber ++ plain 19 30) 10 16 ∷
+    dated (period 10 20 not_a_number ++ plain 19 30) 10 16 ∷
     dated (period 10 20 least ++ plain 19 30) 10 16 ∷
     dated (plain 10 20 ++ plain 30 30) 10 16 ∷
     -- 8 looks at the clearance in force alone
-    dated (plain 10 20 ++ period 20 30 not_aNumber) 19 0 ∷
-    dated (plain 10 20 ++ period 20 30 not_aNumber) 20 8 ∷
-    dated (plain 10 20 ++ period 20 30 not_aNumber) 30 17 ∷
+    dated (plain 10 20 ++ period 20 30 not_a_number) 19 0 ∷
+    dated (plain 10 20 ++ period 20 30 not_a_number) 20 8 ∷
+    dated (plain 10 20 ++ period 20 30 not_a_number) 30 17 ∷
     -- the refusals of the survey, as amended, come first
     unsound [] (plain 10 20) 10 7 ∷
     unsound [] (plain 10 10) 10 7 ∷

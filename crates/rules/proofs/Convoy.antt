@@ -9,7 +9,7 @@ use lib.Ieee.{binary32, of_bits}
 use Rattle.base.specs.Lists.{all}
 use Rattle.base.specs.Grid.{same}
 use Rattle.rules.specs.Convoy.{convoy_amended}
-use Rattle.rules.proofs.Surveys.{place, Soundings, at, minus_zero, one, minus_one, two, three, greatest, least, not_aNumber, resounded, corner_table, leaf}
+use Rattle.rules.proofs.Surveys.{place, Soundings, at, minus_zero, one, minus_one, two, three, greatest, least, not_a_number, resounded, corner_table, leaf}
 use Rattle.rules.proofs.Further.{infinity}
 use Rattle.rules.proofs.Ways.{old, numbers_of, same_numbers, all_wet}
 
@@ -113,21 +113,21 @@ convoys =
     in_leaf stepped (replicate 32 0) 0 3 (untouched 21) ∷
     in_leaf stepped [] 0 3 (untouched 21) ∷
     -- 21 before 8 and 18, after 14 and 7
-    in_leaf stepped (replicate 17 not_aNumber) 8 8 (untouched 21) ∷
+    in_leaf stepped (replicate 17 not_a_number) 8 8 (untouched 21) ∷
     with_amendments (0 ∷ []) [] 0 3 (untouched 14) ∷
-    in_leaf (at (place 0 0 0 ∷ []) not_aNumber one) [] 0 3 (untouched 7) ∷
+    in_leaf (at (place 0 0 0 ∷ []) not_a_number one) [] 0 3 (untouched 7) ∷
     -- any clearance out of range, wherever it stands, the greatest, the least or neither; the limits themselves are in range
-    in_leaf stepped (not_aNumber ∷ []) 0 3 (untouched 8) ∷
-    in_leaf stepped (0 ∷ not_aNumber ∷ []) 0 3 (untouched 8) ∷
-    in_leaf stepped (not_aNumber ∷ 0 ∷ []) 0 3 (untouched 8) ∷
-    in_leaf stepped (replicate 15 0 ++ not_aNumber ∷ []) 0 3 (untouched 8) ∷
+    in_leaf stepped (not_a_number ∷ []) 0 3 (untouched 8) ∷
+    in_leaf stepped (0 ∷ not_a_number ∷ []) 0 3 (untouched 8) ∷
+    in_leaf stepped (not_a_number ∷ 0 ∷ []) 0 3 (untouched 8) ∷
+    in_leaf stepped (replicate 15 0 ++ not_a_number ∷ []) 0 3 (untouched 8) ∷
     in_leaf stepped (0 ∷ infinity ∷ []) 0 3 (untouched 8) ∷
     in_leaf stepped (minus_infinity ∷ 0 ∷ []) 0 3 (untouched 8) ∷
     in_leaf stepped (0 ∷ (least + 1) ∷ one ∷ []) 0 3 (untouched 8) ∷
     in_leaf stepped (0 ∷ (greatest + 1) ∷ []) 0 3 (untouched 8) ∷
     in_leaf stepped (least ∷ greatest ∷ []) 0 3 none ∷
     -- 8 before 18, 18 before 19, 19 before 20. All these pools are open at the box, and 12 is not given.
-    in_leaf stepped (0 ∷ not_aNumber ∷ []) 8 0 (untouched 8) ∷
+    in_leaf stepped (0 ∷ not_a_number ∷ []) 8 0 (untouched 8) ∷
     lent stepped (0 ∷ three ∷ []) 8 0 8 7 (18 ∷ 0 ∷ replicate 15 old) ∷
     lent stepped (0 ∷ three ∷ []) 0 0 7 8 (19 ∷ 0 ∷ replicate 15 old) ∷ []
 

@@ -7,7 +7,7 @@ use lib.ListN.{replicate}
 use Rattle.base.specs.Lists.{collect, count}
 use Rattle.base.specs.Grid.{Place}
 use Rattle.rules.specs.Survey.{cells_of}
-use Rattle.rules.proofs.Surveys.{cell_table, corner_table, place, Soundings, at, one, minus_one, three, greatest, least, not_aNumber, wet_at_only}
+use Rattle.rules.proofs.Surveys.{cell_table, corner_table, place, Soundings, at, one, minus_one, three, greatest, least, not_a_number, wet_at_only}
 use Rattle.rules.proofs.Surveys.{Shape, shape, leaves, leaf, split}
 use Rattle.rules.proofs.Surveys.{checking, drawing, asking, Example, example, example_at, untouched, Right, right, Each, each}
 use Rattle.rules.proofs.Starred.{centre, twins}
@@ -105,7 +105,7 @@ refusals =
     refused 7 leaf (at (place 1024 1024 1024 ∷ []) infinity one) ∷
     example leaf (λ p. least) (drawing 3 3) (0 ∷ 0 ∷ 0 ∷ untouched 3 3) ∷
     -- 8: a clearance that is not a number, above the greatest, below the least; 1,048,576 passes
-    refused_at not_aNumber 8 leaf one_wet ∷
+    refused_at not_a_number 8 leaf one_wet ∷
     refused_at beyond 8 leaf one_wet ∷
     refused_at minus_beyond 8 leaf one_wet ∷
     example_at greatest leaf one_wet (drawing 3 3) (0 ∷ 0 ∷ 0 ∷ untouched 3 3) ∷
@@ -124,16 +124,16 @@ lowest =
     refused 3 (with_cells (cell_table (chain 11 ++ leaves 1)) leaf) one_wet ∷
     refused 4 (record { cells = cell_table (chain 11); corners = twice }) one_wet ∷
     refused 5 (with_corners twice split) one_wet ∷
-    refused 6 (with_corners leaf.corners split) (λ p. not_aNumber) ∷
-    refused_at not_aNumber 7 leaf (λ p. not_aNumber) ∷
+    refused 6 (with_corners leaf.corners split) (λ p. not_a_number) ∷
+    refused_at not_a_number 7 leaf (λ p. not_a_number) ∷
     -- 7, 8, 12 and 9: one corner is wet, by a sounding beyond the greatest, at a clearance beyond it
     refused_at beyond 7 leaf (at (place 0 0 0 ∷ []) infinity minus_one) ∷
     -- 7 and 11, 8 and 11
-    example leaf (λ p. not_aNumber) (asking 3 (place 0 0 0) 1024) (7 ∷ []) ∷
-    example_at not_aNumber leaf one_wet (asking 3 (place 0 0 0) 1024) (8 ∷ []) ∷
+    example leaf (λ p. not_a_number) (asking 3 (place 0 0 0) 1024) (7 ∷ []) ∷
+    example_at not_a_number leaf one_wet (asking 3 (place 0 0 0) 1024) (8 ∷ []) ∷
     -- a check by itself does not look at the clearance
-    example_at not_aNumber leaf one_wet checking (0 ∷ []) ∷
-    example_at not_aNumber leaf (λ p. not_aNumber) checking (7 ∷ []) ∷ []
+    example_at not_a_number leaf one_wet checking (0 ∷ []) ∷
+    example_at not_a_number leaf (λ p. not_a_number) checking (7 ∷ []) ∷ []
 
 -- Each of them gives what document 01 asks.
 pub enquiries_right : Each Right enquiries

@@ -3,7 +3,7 @@
 use Prim.Native.Nat.{ℕ}
 use mathlib.Core.List.{List, [], ◌∷◌}
 use Rattle.base.specs.Grid.{Place}
-use Rattle.rules.proofs.Surveys.{place, at, one, minus_one, not_aNumber, wet_at_only}
+use Rattle.rules.proofs.Surveys.{place, at, one, minus_one, not_a_number, wet_at_only}
 use Rattle.rules.proofs.Surveys.{leaf, split, checking, drawing, asking, Example, example, example_at, untouched, Right, right, Each, each}
 use Rattle.rules.proofs.Starred.{f512}
 use Rattle.rules.proofs.Further.{minus_beyond, one_wet, refused, refused_at}
@@ -31,7 +31,7 @@ openings =
     -- wet by the clearance: the same soundings at clearance 0 are drawn (`centre_wet` in Starred.antt)
     example_at minus_two split (at (place 512 512 512 ∷ []) one minus_one) (drawing 0 0) (12 ∷ 0 ∷ 0 ∷ []) ∷
     -- 7 and 12, 8 and 12: the lower number; 12, 9 and 10: 12, with no counts
-    refused 7 leaf (at (place 0 0 0 ∷ []) one not_aNumber) ∷
+    refused 7 leaf (at (place 0 0 0 ∷ []) one not_a_number) ∷
     refused_at minus_beyond 8 leaf one_wet ∷
     example leaf one_wet (drawing 0 0) (12 ∷ 0 ∷ 0 ∷ []) ∷
     -- the check by itself and the edge enquiry are as they were

@@ -8,7 +8,7 @@ use lib.ListN.{take, replicate}
 use Rattle.base.specs.Lists.{all, collect, little, bytes}
 use Rattle.base.specs.Grid.{origin}
 use Rattle.rules.specs.Resounding.{day_in, amended, bad_amendments, check_amended}
-use Rattle.rules.proofs.Surveys.{place, Soundings, at, one, minus_one, two, three, not_aNumber, resounded, leaf}
+use Rattle.rules.proofs.Surveys.{place, Soundings, at, one, minus_one, two, three, not_a_number, resounded, leaf}
 
 -- amendments to a corner table, and what comes of them: what the check of the survey gives, and the day and the sounding's bits in force at the lowest corner
 pub record Resounding : Type 0 where
@@ -23,7 +23,7 @@ resounding ta n d v = record { soundings = at [] one minus_one; amendments = ta;
 
 -- where the lowest corner was not a number
 abbrev mended : List ℕ → ℕ → ℕ → ℕ → Resounding
-mended ta n d v = record { soundings = at (origin ∷ []) not_aNumber minus_one; amendments = ta; refusal = n; day = d; bits = v }
+mended ta n d v = record { soundings = at (origin ∷ []) not_a_number minus_one; amendments = ta; refusal = n; day = d; bits = v }
 
 -- the lowest corner resounded, by the bits of a sounding and a day
 abbrev again : ℕ → ℕ → List ℕ
@@ -50,19 +50,19 @@ resoundings =
     resounding (resounded (place 1024 0 0) three 9) 0 5 minus_one ∷
     -- not whole records; at no corner, even if too old to hold; in this order
     resounding (take 11 (again one 6)) 14 5 minus_one ∷
-    mended (take 11 (again one 6)) 14 5 not_aNumber ∷
+    mended (take 11 (again one 6)) 14 5 not_a_number ∷
     resounding (stray 6) 15 5 minus_one ∷
     resounding (stray 0) 15 5 minus_one ∷
     resounding (again one 6 ++ stray 0) 15 6 one ∷
     resounding (stray 6 ++ 0 ∷ []) 14 5 minus_one ∷
     -- 7 looks at what is in force alone
-    mended [] 7 5 not_aNumber ∷
-    mended (again one 4) 7 5 not_aNumber ∷
+    mended [] 7 5 not_a_number ∷
+    mended (again one 4) 7 5 not_a_number ∷
     mended (again one 5) 0 5 one ∷
-    resounding (again not_aNumber 4) 0 5 minus_one ∷
-    resounding (again not_aNumber 5) 7 5 not_aNumber ∷
-    resounding (again not_aNumber 6 ++ again one 6) 0 6 one ∷
-    mended (stray 0) 15 5 not_aNumber ∷ []
+    resounding (again not_a_number 4) 0 5 minus_one ∷
+    resounding (again not_a_number 5) 7 5 not_a_number ∷
+    resounding (again not_a_number 6 ++ again one 6) 0 6 one ∷
+    mended (stray 0) 15 5 not_a_number ∷ []
 
 unfoldable pub right : Resounding → Bool
 unfolding day_in amended check_amended

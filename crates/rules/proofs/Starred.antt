@@ -5,7 +5,7 @@ use Prim.Native.Nat.{ℕ}
 use mathlib.Core.Bool.{true, false}
 use mathlib.Core.List.{List, [], ◌∷◌, ◌++◌}
 use Rattle.rules.specs.Survey.{cells_of}
-use Rattle.rules.proofs.Surveys.{cell_table, place, Soundings, at, minus_zero, one, minus_one, three, not_aNumber, wet_at_only}
+use Rattle.rules.proofs.Surveys.{cell_table, place, Soundings, at, minus_zero, one, minus_one, three, not_a_number, wet_at_only}
 use Rattle.rules.proofs.Surveys.{Shape, shape, leaves, leaf, split}
 use Rattle.rules.proofs.Surveys.{drawing, asking, Example, example, face_alone, untouched, Right, right, Each, each}
 
@@ -92,7 +92,7 @@ third_split =
 abbrev pub bad_soundings : List Example
 bad_soundings =
     example leaf (λ p. 0x4980_0001) (drawing 0 0) (7 ∷ 0 ∷ 0 ∷ []) ∷
-    example leaf (λ p. not_aNumber) (drawing 0 0) (7 ∷ 0 ∷ 0 ∷ []) ∷ []
+    example leaf (λ p. not_a_number) (drawing 0 0) (7 ∷ 0 ∷ 0 ∷ []) ∷ []
 
 -- an enquiry with axis 3
 unfoldable pub axis_three : Example

@@ -58,8 +58,8 @@ greatest = 0x4980_0000
 abbrev pub least : ℕ
 least = 0xc980_0000
 
-abbrev pub not_aNumber : ℕ
-not_aNumber = 0x7fc0_0000
+abbrev pub not_a_number : ℕ
+not_a_number = 0x7fc0_0000
 
 -- +1 at the wet places, -1 elsewhere
 abbrev pub wet_at_only : List Place → Soundings

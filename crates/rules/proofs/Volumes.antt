@@ -12,7 +12,7 @@ use lib.Ieee.{binary32, of_bits, to_bits}
 use Rattle.base.specs.Lists.{all, bit}
 use Rattle.base.specs.Grid.{Place}
 use Rattle.rules.specs.Water.{Reckoning, volume}
-use Rattle.rules.proofs.Surveys.{place, Soundings, at, minus_one, not_aNumber, corner_table, Shape, leaf, split, old_float, old_number, bits, untouched}
+use Rattle.rules.proofs.Surveys.{place, Soundings, at, minus_one, not_a_number, corner_table, Shape, leaf, split, old_float, old_number, bits, untouched}
 use Rattle.rules.proofs.Surveys.{equal, Each, each_given}
 use Rattle.rules.proofs.Starred.{centre}
 use Rattle.rules.proofs.Further.{minus_beyond, one_wet}
@@ -87,7 +87,7 @@ references =
     measure split centre (place 0 1025 0) 0 0 (13 ∷ 0 ∷ 0 ∷ 0 ∷ 0 ∷ []) ∷
     measure leaf one_wet (place 0 1025 0) 0 0 (12 ∷ 0 ∷ 0 ∷ 0 ∷ 0 ∷ []) ∷
     measure_at minus_beyond leaf dry (place 0 1025 0) 0 0 (8 ∷ 0 ∷ 0 ∷ 0 ∷ 0 ∷ []) ∷
-    measure leaf (at (place 0 0 0 ∷ []) not_aNumber minus_one) (place 0 1025 0) 0 0 (7 ∷ 0 ∷ 0 ∷ 0 ∷ 0 ∷ []) ∷ []
+    measure leaf (at (place 0 0 0 ∷ []) not_a_number minus_one) (place 0 1025 0) 0 0 (7 ∷ 0 ∷ 0 ∷ 0 ∷ 0 ∷ []) ∷ []
 
 pub references_right : Each Measured references
 unfolding measured references

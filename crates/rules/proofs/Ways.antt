@@ -9,7 +9,7 @@ use lib.Ieee.{binary32, of_bits}
 use Rattle.base.specs.Lists.{all}
 use Rattle.base.specs.Grid.{origin}
 use Rattle.rules.specs.Ways.{Shown, passage_amended}
-use Rattle.rules.proofs.Surveys.{place, Soundings, at, wet_at_only, one, minus_one, not_aNumber, resounded, corner_table, Shape, leaf, split}
+use Rattle.rules.proofs.Surveys.{place, Soundings, at, wet_at_only, one, minus_one, not_a_number, resounded, corner_table, Shape, leaf, split}
 
 -- a survey, the bits of the clearance, start, end, how long the slices are, and what comes of it
 pub record Passed : Type 0 where
@@ -90,7 +90,7 @@ ways =
     lent all_wet 0 0 0 7 8 (19 ∷ 0 ∷ replicate 15 old) ∷
     lent all_wet 0 0 0 8 7 (19 ∷ 0 ∷ replicate 15 old) ∷
     lent (wet_at_only []) 0 0 0 8 7 (19 ∷ 0 ∷ replicate 15 old) ∷
-    lent all_wet not_aNumber 8 8 0 0 (8 ∷ 0 ∷ []) ∷
+    lent all_wet not_a_number 8 8 0 0 (8 ∷ 0 ∷ []) ∷
     -- a divided edge is no step, though both its ends are wet; its halves are
     in_split (wet_at_only (origin ∷ place 1024 0 0 ∷ [])) 0 2 (20 ∷ 0 ∷ replicate 27 old ++ 1 ∷ replicate 26 0) ∷
     in_split (wet_at_only (origin ∷ place 512 0 0 ∷ place 1024 0 0 ∷ [])) 0 2 (0 ∷ 3 ∷ 0 ∷ 1 ∷ 2 ∷ replicate 24 old ++ 1 ∷ 2 ∷ 3 ∷ replicate 24 0) ∷ []

@@ -37,7 +37,7 @@ fn axis_offset(coordinate: f32, reference: u32) -> i64
 // A point of the slice, taken from the reference.
 fn corner(points: &[f32], p: u32, reference: Reference) -> Offset
     requires placed { Placed points.now p }
-    requires t { T (not (beyond_box (reference_place reference))) }
+    requires reference_in_box { T (not (beyond_box (reference_place reference))) }
     ensures { result ≡ taken (reference_place reference) points.now p }
 {
     let at = 3 * (p as usize);
@@ -67,7 +67,7 @@ fn determinant_of(a: Offset, b: Offset, c: Offset) -> i64
 // The determinant of the corners of the triangle whose numbers begin at an element of the slice.
 fn triangle(points: &[f32], triangles: &[u32], at: usize, reference: Reference) -> i64
     requires held { Held points.now triangles.now at }
-    requires t { T (not (beyond_box (reference_place reference))) }
+    requires reference_in_box { T (not (beyond_box (reference_place reference))) }
     ensures { result ≡ sixfold_of (reference_place reference) points.now (triangle_at triangles.now at) }
 {
     determinant_of(
@@ -80,7 +80,7 @@ fn triangle(points: &[f32], triangles: &[u32], at: usize, reference: Reference) 
 // The sum over the first m triangles of a slice.
 pub fn sum(points: &[f32], triangles: &[u32], m: u32, reference: Reference) -> i64
     requires summable { Summable points.now triangles.now m }
-    requires t { T (not (beyond_box (reference_place reference))) }
+    requires reference_in_box { T (not (beyond_box (reference_place reference))) }
     ensures { result ≡ sixfold (reference_place reference) points.now (triangles_in m triangles.now) }
 {
     let count = m as usize;

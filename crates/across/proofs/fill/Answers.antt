@@ -18,7 +18,7 @@ pub loop-n-init : goal.loop-n-init
 loop-n-init c = (
   omega arith,
   refl,
-  box_filled c.args.cells.now (→true c.requires.cells_value) (→false c.requires.cells_value_2) c.args.across.now _ c.requires.cells_len_bound.1 c.fill_box.ensures,
+  box_filled c.args.cells.now (→true c.requires.cells_value) (→false c.requires.shallow) c.args.across.now _ c.requires.cells_len_bound.1 c.fill_box.ensures,
 )
 
 pub loop-n-preserved-then-first-eq0 : goal.loop-n-preserved-then-first-eq0
@@ -38,7 +38,7 @@ fill_children-requires c =
     let known = read ∙ children-from t c.requires.cells_value c.loop-n.n (omega arith) split in
     record {
       cells_value = c.requires.cells_value;
-      cells_value_2 = c.requires.cells_value_2;
+      shallow = c.requires.shallow;
       cells_len_bound = (c.requires.cells_len_bound.0, omega arith);
       first_value = (read, omega arith);
       beyond_to = subst (BeyondTo t c.loop-n.across) (sym known) c.loop-n.invariant.2;
@@ -54,7 +54,7 @@ loop-n-preserved c =
     let more : c.cell_entry-first.result + 8 ≡ 1 + 8 * splits (n + 1) (entries t) = omega (arith, known, split_step t c.requires.cells_value n (omega arith) split) in (
       omega arith,
       c.fill_children.ensures.across_len_unchanged ∙ c.loop-n.invariant.1,
-      subst (BeyondTo t _) more c.fill_children.ensures.beyond_to_2,
+      subst (BeyondTo t _) more c.fill_children.ensures.filled,
     )
 
 pub shape_of-across : goal.shape_of-across

@@ -59,7 +59,7 @@ loop-n-preserved c =
     let l = c.loop-n in (
       search (rules, l.invariant.0),
       refl,
-      c.resound.ensures.amended_by_2 c.if-resound.false,
+      c.resound.ensures.one_more c.if-resound.false,
       any_miss (unlisted a.corners.now) (records_of a.amendments.now) l.n [] (inside (goal.at.loop-n-preserved c).After-resound) (nth (goal.at.loop-n-preserved c).After-resound ∙ c.if-resound.false) ∙ l.invariant.3,
     )
 

@@ -31,7 +31,7 @@ pub returns-then-k-corners : goal.returns-then-k-corners
 returns-then-k-corners c =
     record {
       value = sym (listed_by (goal.at.returns-then-k-corners c).After-find-k ∙ ap not (le-ltb c.find-k.result (record_count c.args.corners.now) c.if-k-corners.true));
-      amended_by_2 = λ e. absurd (true≢false e);
+      one_more = λ e. absurd (true≢false e);
     }
 
 pub day_at-requires : goal.day_at-requires
@@ -44,7 +44,7 @@ pub returns-then-day_at : goal.returns-then-day_at
 returns-then-day_at c =
     record {
       value = at_corner (goal.at.returns-then-day_at c).Else-k-corners;
-      amended_by_2 = λ z. newer c.args.corners.now c.args.amendments.now c.args.table.now c.type_inv.corners
+      one_more = λ z. newer c.args.corners.now c.args.amendments.now c.args.table.now c.type_inv.corners
           c.type_inv.amendments c.requires.corners_value c.args.n c.requires.n_bound c.find-k.result (looked_up (goal.at.returns-then-day_at c).After-find-k) c.requires.amended_by
           (omega (arith, c.if-k-corners.false)) (omega (arith, c.day_at.ensures, c.day_at-2.ensures, c.if-day_at.true)) _
           c.copy.ensures;
@@ -54,7 +54,7 @@ pub returns-else-day_at : goal.returns-else-day_at
 returns-else-day_at c =
     record {
       value = at_corner (goal.at.returns-else-day_at c).Else-k-corners;
-      amended_by_2 = λ z. older c.args.corners.now c.args.amendments.now c.args.table.now c.type_inv.corners
+      one_more = λ z. older c.args.corners.now c.args.amendments.now c.args.table.now c.type_inv.corners
           c.type_inv.amendments c.requires.corners_value c.args.n c.requires.n_bound c.find-k.result (looked_up (goal.at.returns-else-day_at c).After-find-k) c.requires.amended_by
           (omega (arith, c.if-k-corners.false)) (omega (arith, c.day_at.ensures, c.day_at-2.ensures, c.if-day_at.false));
     }

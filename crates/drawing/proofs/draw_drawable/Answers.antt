@@ -45,7 +45,7 @@ fill-requires c =
     let few = few-cells a.cells.now a.corners.now a.clearance (ok (goal.at.fill-requires c).Start) in
     record {
       cells_value = entries_follow a.cells.now a.corners.now a.clearance (ok (goal.at.fill-requires c).Start);
-      cells_value_2 = none_deep a.cells.now a.corners.now a.clearance (ok (goal.at.fill-requires c).Start);
+      shallow = none_deep a.cells.now a.corners.now a.clearance (ok (goal.at.fill-requires c).Start);
       cells_len_bound = (few, search (rules, few));
     }
 

@@ -2,8 +2,8 @@
 use Rattle.records.proofs.Search.{round_below, round-from}
 use Rattle.reader.proofs.narrowed.Goals as goal
 
-pub returns-clause-by_index : goal.returns-clause-by_index
-returns-clause-by_index c =
+pub returns-clause-smaller : goal.returns-clause-smaller
+returns-clause-smaller c =
     let f = c.is_below.ensures in
     let g = c.is_below-2.ensures in
     let h = c.is_below-3.ensures in
@@ -11,8 +11,8 @@ returns-clause-by_index c =
     round_below a.corners.now c.type_inv.corners c.requires.ordered.1 a.count a.key a.low a.size _ _ _ c.requires.ordered.0
     (f.upper_bound, (f.at_lt_count, f.key_bound)) (g.upper_bound, (g.at_lt_count, g.key_bound)) (h.upper_bound, (h.at_lt_count, h.key_bound))
 
-pub returns-clause-by_index_2 : goal.returns-clause-by_index_2
-returns-clause-by_index_2 c =
+pub returns-clause-no_smaller : goal.returns-clause-no_smaller
+returns-clause-no_smaller c =
     let f = c.is_below.ensures in
     let g = c.is_below-2.ensures in
     let h = c.is_below-3.ensures in

@@ -38,7 +38,7 @@ sum-requires c =
     record {
       summable = can_sum a.cells.now a.corners.now a.asked.clearance a.points.now a.triangles.now c.draw_drawable-drawn.result _ _
           c.draw_drawable-drawn.ensures c.if-drawn-ne0.false;
-      t = →false (inside a.cells.now a.corners.now a.asked.clearance (reference_place a.asked.reference) a.points.now a.triangles.now
+      reference_in_box = →false (inside a.cells.now a.corners.now a.asked.clearance (reference_place a.asked.reference) a.points.now a.triangles.now
           c.refusal-number.result c.refusal-number.ensures.value c.if-number-ne0.false);
     }
 

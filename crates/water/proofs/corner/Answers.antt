@@ -19,21 +19,21 @@ pub axis_offset-requires : goal.axis_offset-requires
 axis_offset-requires c =
     record {
       in_box = x-there c.args.points.now c.args.p c.requires.placed;
-      reference_bound = in_box (reference_place c.args.reference) c.requires.t X;
+      reference_bound = in_box (reference_place c.args.reference) c.requires.reference_in_box X;
     }
 
 pub axis_offset-requires-2 : goal.axis_offset-requires-2
 axis_offset-requires-2 c =
     record {
       in_box = c.requires.placed.1 Y;
-      reference_bound = in_box (reference_place c.args.reference) c.requires.t Y;
+      reference_bound = in_box (reference_place c.args.reference) c.requires.reference_in_box Y;
     }
 
 pub axis_offset-requires-3 : goal.axis_offset-requires-3
 axis_offset-requires-3 c =
     record {
       in_box = c.requires.placed.1 Z;
-      reference_bound = in_box (reference_place c.args.reference) c.requires.t Z;
+      reference_bound = in_box (reference_place c.args.reference) c.requires.reference_in_box Z;
     }
 
 pub returns : goal.returns

@@ -9,14 +9,14 @@ use Rattle.water.proofs.sum.Goals as goal
 use Rattle.water.proofs.sum.Goals.{After-triangle-total}
 
 pub triangle-total-requires : goal.triangle-total-requires
-triangle-total-requires c = record { held = c.requires.summable.drawn c.loop-k.k c.loop-k-test.true; t = c.requires.t }
+triangle-total-requires c = record { held = c.requires.summable.drawn c.loop-k.k c.loop-k-test.true; reference_in_box = c.requires.reference_in_box }
 
 -- the turn that ends with this sum
 turned : (c : After-triangle-total) → let next = to_z w64 c.loop-k.total-bits +ℤ to_z w64 (of_z w64 c.triangle-total.result) in
     let more = sixfold (reference_place c.args.reference) c.args.points.now (triangles_in (c.loop-k.k + 1) c.args.triangles.now) in
     SFits w64 next × (next ≡ more) × (nat_abs more ≤ (c.loop-k.k + 1) * (6 * 2 ^ 42))
 turned c =
-    turn (reference_place c.args.reference) c.args.points.now c.args.triangles.now c.requires.t c.args.m c.loop-k.k (to_z w64 c.loop-k.total-bits)
+    turn (reference_place c.args.reference) c.args.points.now c.args.triangles.now c.requires.reference_in_box c.args.m c.loop-k.k (to_z w64 c.loop-k.total-bits)
     c.triangle-total.result c.requires.summable c.loop-k-test.true c.loop-k.invariant.total c.loop-k.invariant.small c.triangle-total.ensures
 
 pub overflow_add-total : goal.overflow_add-total

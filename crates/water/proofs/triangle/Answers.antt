@@ -8,20 +8,20 @@ use Rattle.water.specs.declared.Offset.{Offset}
 use Rattle.water.proofs.triangle.Goals as goal
 
 pub corner-requires : goal.corner-requires
-corner-requires c = record { placed = c.requires.held.first; t = c.requires.t }
+corner-requires c = record { placed = c.requires.held.first; reference_in_box = c.requires.reference_in_box }
 
 pub corner-requires-2 : goal.corner-requires-2
-corner-requires-2 c = record { placed = c.requires.held.second; t = c.requires.t }
+corner-requires-2 c = record { placed = c.requires.held.second; reference_in_box = c.requires.reference_in_box }
 
 pub corner-requires-3 : goal.corner-requires-3
-corner-requires-3 c = record { placed = c.requires.held.third; t = c.requires.t }
+corner-requires-3 c = record { placed = c.requires.held.third; reference_in_box = c.requires.reference_in_box }
 
 pub determinant_of-requires : goal.determinant_of-requires
 determinant_of-requires c =
     let points = c.args.points.now in
     let r = reference_place c.args.reference in
     let near : (o : Offset) (p : ℕ) → o ≡ taken r points p → Placed points p → Near (part o) =
-    λ o p e placed. subst (λ (o : Offset). Near (part o)) (sym e) (taken_near r points p c.requires.t placed) in (
+    λ o p e placed. subst (λ (o : Offset). Near (part o)) (sym e) (taken_near r points p c.requires.reference_in_box placed) in (
       near _ _ c.corner.ensures c.requires.held.first,
       near _ _ c.corner-2.ensures c.requires.held.second,
       near _ _ c.corner-3.ensures c.requires.held.third,
