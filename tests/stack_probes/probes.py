@@ -2,8 +2,9 @@
 """Lists the functions of compiled files in which a loop touches new stack pages behind a conditional jump, or a jump through a table.
 
 The compiler's back end touches a large frame in steps of 3,072 bytes, so that no page is passed over: `sub $0xc00,%rsp`, then a store to where that points. A
-few steps are written out, and overwrite nothing. More are a loop that ends at the address in r11. Where that stands behind a branch, r11 may hold a value that
-is still wanted, and the function is compiled wrong. In the first instructions of a function it is harmless.
+few steps are written out, and overwrite nothing. More are a loop that ends at the address in a register, r11. Where that stands behind a branch, the register
+may hold a value that is still wanted, and the function is compiled wrong. In the first instructions of a function it is harmless. A step counts as one of a
+loop if the stack pointer is compared behind it, or r11 is written before it.
 
     probes.py FILE..    files that objdump reads: archives, objects, programs
 
@@ -17,7 +18,6 @@ FUNCTION = re.compile(r"^[0-9a-f]+ <(.+)>:$")
 INSTRUCTION = re.compile(r"^ *([0-9a-f]+):\t(\S+) *(.*)$")
 TARGET = re.compile(r"^([0-9a-f]+)\b")
 STEP = [(("sub", "subq"), "$0xc00,%rsp"), (("movq",), "$0x0,(%rsp)")]
-END_OF_LOOP = (("cmp", "cmpq"), "%r11,%rsp")
 
 
 def functions(path):
@@ -49,15 +49,26 @@ def goes_back_to(loops, operands):
     return bool(target) and int(target[1], 16) in loops
 
 
+def ends_a_turn(instructions):
+    """Whether the instruction behind a step, if there is one, compares the stack pointer: the end of a loop's turn."""
+    return any(operation.startswith("cmp") and "%rsp" in operands for _, operation, operands in instructions)
+
+
+def writes_r11(instructions):
+    """Whether the instruction before a step, if there is one, writes r11, where such a loop has its end."""
+    return any(operands.endswith(",%r11") for _, _, operands in instructions)
+
+
 def steps_taken(body):
     """How many steps touch a page, and whether a loop of them stands behind a branch that is not its own or that of another such loop."""
     steps, loops, branched, behind = 0, set(), False, False
     for at, (address, operation, operands) in enumerate(body):
         if is_like(body[at : at + 2], STEP):
             steps += 1
-            if is_like(body[at + 2 : at + 3], [END_OF_LOOP]):
+            turn = ends_a_turn(body[at + 2 : at + 3])
+            if turn:
                 loops.add(address)
-                behind = behind or branched
+            behind = behind or (branched and (turn or writes_r11(body[max(at - 1, 0) : at])))
         elif is_branch(operation, operands) and not goes_back_to(loops, operands):
             branched = True
     return steps, behind
