@@ -1,13 +1,12 @@
 -- Document 02, request 5: the step in a pattern by the code's formula is the one by document 01's rule, and the first edge by which one enters too.
 -- Computed tests over the sixteen patterns.
 use Prim.Native.Nat.{ℕ, ◌+◌, ◌*◌, ◌-◌, ◌/◌, ◌%◌, ◌^◌, ◌<◌}
-use mathlib.Core.Path.{◌≡◌, refl, sym, ap, ◌∙◌}
+use mathlib.Core.Path.{◌≡◌, refl}
 use mathlib.Core.Bool.{cond}
 use native.Mathlib.Omega.{arith}
 use lib.Dec.{eqb}
 use lib.Bits.{bit_and, and_le_r}
 use lib.Count.{count_trailing_zeros, trailing_le}
-use borrow.Author.Tests.{eq-eqb, ne_eqb}
 use Rattle.base.proofs.Alike.{alike}
 use Rattle.faces.specs.Patterns.{step_from, first_entry}
 use Rattle.faces.proofs.Table.{alike_rows}
@@ -27,13 +26,6 @@ formula p i = cond (eqb (marks p i % 4) 2) ((i + wet_to_right p i) % 4) 4
 pub by-formula : (p i : ℕ) → p < 16 → i < 4 → formula p i ≡ step_from p i
 unfolding count_trailing_zeros step_from
 by-formula = alike_rows formula step_from refl
-
-module _ (p i : ℕ) (h : p < 16) (l : i < 4) where
-  pub step_enters : marks p i % 4 ≡ 2 → (i + wet_to_right p i) % 4 ≡ step_from p i
-  step_enters e = ap (λ b. cond b ((i + wet_to_right p i) % 4) 4) (sym (eq-eqb (marks p i % 4) 2 e)) ∙ by-formula p i h l
-
-  pub no_step : (marks p i % 4 ≡ 2 → ⊥) → 4 ≡ step_from p i
-  no_step n = ap (λ b. cond b ((i + wet_to_right p i) % 4) 4) (sym (ne_eqb (marks p i % 4) 2 n)) ∙ by-formula p i h l
 
 -- the lowest digit at which a corner is dry and the next one wet, or 4
 abbrev lowest : ℕ → ℕ

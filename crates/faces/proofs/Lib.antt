@@ -1,5 +1,6 @@
 pub mod Table
 pub mod Formula
+pub mod Entering
 pub mod Patterns
 pub mod Rows
 pub mod Steps

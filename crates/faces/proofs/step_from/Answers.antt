@@ -1,6 +1,7 @@
 -- `faces::step_from` meets its contract: the formula is the rule.
 use borrow.Author.Rules.{rules}
-use Rattle.faces.proofs.Formula.{step_enters, no_step, count_fits, edge-fits}
+use Rattle.faces.proofs.Formula.{count_fits, edge-fits}
+use Rattle.faces.proofs.Entering.{step_enters, no_step}
 use Rattle.faces.proofs.step_from.Goals as goal
 
 pub returns-then-marks-ne2 : goal.returns-then-marks-ne2
