@@ -1,7 +1,7 @@
 // Edges and crossing points of a survey: the table of slots (levels and numbers), the point of an odd edge, and the writer of all points.
 // Uses digits, records, reader, cells and places, and the tables that cells and octants describe. specs/ says what each table holds.
-// Here and in the crates above the tables of a survey go together (`cells, corners, clearance, wets, slots`), and functions take them one by one: a struct that
-// holds slices can be had, but then each proof is a walk through the code by hand.
+// Here and in the crates above the tables of a survey go together (`cells, corners, clearance, wets, slots`), and functions take them one by one. They are from
+// a time when what a struct with slices did had to be proved by hand; `reader::Reader` shows that it can be had now.
 #![tactic(auto)]
 
 ghost use Rattle.std.specs.Prelude.{◌≡◌, true, ◌&&◌, ◌||◌, [], ◌+◌, ◌*◌, ◌/◌, ◌%◌, ◌≤◌, ◌<◌, T, length, set};

@@ -97,7 +97,7 @@ pub fn look_up<'a>(r: Reader<'a>, key: u64, guess: usize) -> usize
     find_in(r.bytes, r.count, key, guess)
 }
 
-// The look-up in plain bytes, through a reader laid over them, with a guess at the record: whoever calls this one needs no walk by hand.
+// The look-up in plain bytes, through a reader laid over them, with a guess at the record.
 pub fn find_near(corners: &[u8], key: u64, guess: usize) -> usize
     requires { rising (places_of corners.now) ≡ true }
     ensures { result ≡ record_at corners.now key }

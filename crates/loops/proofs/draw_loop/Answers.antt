@@ -36,7 +36,7 @@ more : (c : At-loop-w) (g : Some (goal.at.At-loop-w c).Start)
     (progress c.loop-w.trace c.loop-w.out c.loop-w.k)
 more c g = c.loop-w.invariant g.0 g.1 (entry (goal.at.At-loop-w c).Start) (start (goal.at.At-loop-w c).Start g) (two (goal.at.At-loop-w c).After-step-w g)
 
--- ---- the needs
+-- ---- the goals
 
 pub step-second-requires : goal.step-second-requires
 step-second-requires c = start_inside _ _ _ _ (start (goal.at.step-second-requires c).Start (some (goal.at.step-second-requires c).Start))
