@@ -34,7 +34,7 @@ fn first_across(cells: &[u8], across: &[u16], n: usize, i: usize) -> usize
     requires i_in_bounds { (6 * n + i < length across.now) × (get_or across.now (6 * n + i) 0 < length cells.now / 4) }
     ensures { result ≡ first_across cells.now across.now n i }
 {
-    let q = across[6 * n + i] as usize;
+    let q = usize::from(across[6 * n + i]);
     if q == 0 {
         return 0;
     }
@@ -72,10 +72,8 @@ fn fill_side(cells: &[u8], across: &mut [u16], first: usize, far: usize, i: usiz
     requires cells_in_bounds { (6 * (length cells.now / 4) ≤ length across.old) × (i < 6) }
     ensures { SideFilled cells.now first far i 8 across.old across.new }
 {
-    let mut j: usize = 0;
-    while j < 8 {
+    for j in 0..8 {
         across[6 * (first + j) + i] = child_across(cells, first, far, i, j);
-        j += 1;
     }
 }
 
@@ -89,11 +87,9 @@ fn fill_children(cells: &[u8], across: &mut [u16], n: usize, first: usize)
     ensures across_len_unchanged { length across.new ≡ length across.old }
     ensures filled { BeyondTo cells.now across.new (first + 8) }
 {
-    let mut i: usize = 0;
-    while i < 6 {
+    for i in 0..6 {
         let far = first_across(cells, across, n, i);
         fill_side(cells, across, first, far, i);
-        i += 1;
     }
 }
 
@@ -102,11 +98,7 @@ fn fill_box(across: &mut [u16])
     requires { 6 ≤ length across.old }
     ensures { across.new ≡ written_at (λ i. 0) 0 6 across.old }
 {
-    let mut i: usize = 0;
-    while i < 6 {
-        across[i] = 0;
-        i += 1;
-    }
+    across[..6].fill(0);
 }
 
 // The table of the split cells across all sides of all cells. Children come after their parents, so that one pass is enough.
@@ -117,15 +109,10 @@ pub fn fill(cells: &[u8], across: &mut [u16])
     ensures { Beyond cells.now across.new }
 {
     fill_box(across);
-    let count = cells.len() / 4;
-    let mut n: usize = 0;
-    while n < count {
+    for n in 0..cells.len() / 4 {
         let first = records::cell_entry(cells, n) as usize;
-        if first == 0 {
-            n += 1;
-            continue;
+        if first != 0 {
+            fill_children(cells, across, n, first);
         }
-        fill_children(cells, across, n, first);
-        n += 1;
     }
 }

@@ -1,26 +1,29 @@
 -- The ways that the call goes: refused by the survey, by the calendar, or drawn at the clearance in force.
 -- Assumes nothing.
+use Rattle.std.specs.Prelude.{Ok, Err}
 use Prim.Native.Nat.{ℕ}
 use mathlib.Core.Path.{◌≡◌, refl, sym, ap, ◌∙◌}
 use mathlib.Core.Bool.{Bool, true, false, not, cond, true≢false}
 use mathlib.Core.List.{List, [], ◌∷◌, ◌++◌}
-use native.Mathlib.Omega.{arith}
 use lib.Dec.{eqb, eqb→eq}
 use lib.Ieee.{Float}
 use borrow.Author.Tests.{eqb-false, ne_eqb}
 use Rattle.base.proofs.Tests.{→true}
+use Rattle.rules.specs.Refusals.{refusal_number, outcome}
+use Rattle.rules.specs.declared.refusal.Refusal.{Refusal}
+use Rattle.rules.specs.declared.refusal.Refusal.TheVariants.{Calendar, Minute}
 use Rattle.rules.specs.OpenAtBox.{open_at_box}
 use Rattle.rules.specs.Outputs.{in_range, first_of, table_checks, sounding_check, survey_checks, checks, drawing_checks}
 use Rattle.rules.specs.Resounding.{amended, amendment_checks, undrawn, draw_amended, check_order}
 use Rattle.rules.specs.Calendar.{clearance_at, bad_calendar, none_holds, calendar_checks, draw_by_calendar}
 use Rattle.octree.proofs.Accepted.{first_append}
 use Rattle.amendments.proofs.Calls.{tables_pass, amended_pass}
+use Rattle.amendments.proofs.Refusals.{some_number}
 use Rattle.amendments.proofs.Laws.{all_numbered, survey_number, after-survey}
 use Rattle.drawing.proofs.Outcome.{refused}
 use Rattle.drawing.proofs.Amended.{refused-is, drawn-is}
 use Rattle.calendar.specs.ReadingAt.{reading_at}
-use Rattle.calendar.specs.declared.Reading.{Reading}
-use Rattle.calendar.specs.declared.Reading.TheVariants.{Refused, Clearance}
+use Rattle.calendar.proofs.Pass.{Reading}
 
 module _ (tc tk ta : List ℕ) where
   -- of the checks of the survey by itself, the first that applies
@@ -77,41 +80,37 @@ module _ (tc tk ta : List ℕ) where
 
 -- ---- what the calendar reads
 
-abbrev refusal_in : Reading → ℕ
-refusal_in (Refused n) = n
-refusal_in (Clearance v) = 0
-
 abbrev is_refused : Reading → Bool
-is_refused (Refused n) = true
-is_refused (Clearance v) = false
+is_refused (Err e) = true
+is_refused (Ok v) = false
 
 abbrev clearance_in : Float → Reading → Float
-clearance_in other (Refused n) = other
-clearance_in other (Clearance v) = v
+clearance_in other (Err e) = other
+clearance_in other (Ok v) = v
 
 module _ (t : List ℕ) (minute : ℕ) where
   abbrev pub own : List (ℕ × Bool)
   own = (16, bad_calendar t) ∷ (17, none_holds t minute) ∷ []
 
   abbrev reading : Bool → Bool → Reading
-  reading bad none = cond bad (Refused 16) (cond none (Refused 17) (Clearance (clearance_at t minute)))
+  reading bad none = cond bad (Err Calendar) (cond none (Err Minute) (Ok (clearance_at t minute)))
 
   -- where it refuses, 16 or 17 applies
-  pub refused→ : (n : ℕ) → Refused n ≡ reading_at t minute → (first_of own ≡ n) × (n ≡ 0 → ⊥)
+  pub refused→ : (e : Refusal) → Err e ≡ reading_at t minute → first_of own ≡ refusal_number e
   unfolding reading_at
-  refused→ n e = go (bad_calendar t) (none_holds t minute) e
+  refused→ e is = go (bad_calendar t) (none_holds t minute) is
     where
-      go : (bad none : Bool) → Refused n ≡ reading bad none → (cond bad 16 (cond none 17 0) ≡ n) × (n ≡ 0 → ⊥)
-      go true none e = let is = ap refusal_in e in (sym is, λ z. omega arith)
-      go false true e = let is = ap refusal_in e in (sym is, λ z. omega arith)
-      go false false e = absurd (true≢false (ap is_refused e))
+      go : (bad none : Bool) → Err e ≡ reading bad none → cond bad 16 (cond none 17 0) ≡ refusal_number e
+      go true none is = sym (ap outcome is)
+      go false true is = sym (ap outcome is)
+      go false false is = absurd (true≢false (ap is_refused is))
 
   -- where it has a clearance, neither does, and that one is in force
-  pub clearance→ : (v : Float) → Clearance v ≡ reading_at t minute → (bad_calendar t ≡ false) × (none_holds t minute ≡ false) × (v ≡ clearance_at t minute)
+  pub clearance→ : (v : Float) → Ok v ≡ reading_at t minute → (bad_calendar t ≡ false) × (none_holds t minute ≡ false) × (v ≡ clearance_at t minute)
   unfolding reading_at
   clearance→ v e = go (bad_calendar t) (none_holds t minute) e refl refl
     where
-      go : (bad none : Bool) → Clearance v ≡ reading bad none → bad_calendar t ≡ bad → none_holds t minute ≡ none
+      go : (bad none : Bool) → Ok v ≡ reading bad none → bad_calendar t ≡ bad → none_holds t minute ≡ none
           → (bad_calendar t ≡ false) × (none_holds t minute ≡ false) × (v ≡ clearance_at t minute)
       go true none e a b = absurd (true≢false (sym (ap is_refused e)))
       go false true e a b = absurd (true≢false (sym (ap is_refused e)))
@@ -121,20 +120,22 @@ module _ (t : List ℕ) (minute : ℕ) where
 
 module _ (tc tk ta t : List ℕ) (minute : ℕ) (ps : List Float) (ts : List ℕ) where
   -- refused by the calendar, or by the survey before it
-  pub undrawn-by : (n : ℕ) → Refused n ≡ reading_at t minute
-      → draw_by_calendar tc tk ta t minute ps ts ≡ undrawn (first_of (check_order tc tk ta ++ (n, true) ∷ [])) ps ts
+  pub undrawn-by : (e : Refusal) → Err e ≡ reading_at t minute
+      → draw_by_calendar tc tk ta t minute ps ts ≡ undrawn (first_of (check_order tc tk ta ++ (refusal_number e, true) ∷ [])) ps ts
   unfolding draw_by_calendar calendar_checks
-  undrawn-by n e =
-      let (is, some) = refused→ t minute n e in
-      rw (after-survey tc tk ta (own t minute), after-survey tc tk ta ((n, true) ∷ []), is) (go (eqb (survey_number tc tk ta) 0) refl some)
+  undrawn-by e is =
+      rw (after-survey tc tk ta (own t minute), after-survey tc tk ta ((n, true) ∷ []), refused→ t minute e is) (go (eqb (survey_number tc tk ta) 0) refl)
     where
+      n : ℕ
+      n = refusal_number e
+
       m : ℕ
       m = survey_number tc tk ta
 
-      go : (b : Bool) → eqb m 0 ≡ b → (n ≡ 0 → ⊥)
+      go : (b : Bool) → eqb m 0 ≡ b
           → cond (eqb (cond b n m) 0) (draw_amended tc tk ta (clearance_at t minute) ps ts) (undrawn (cond b n m) ps ts) ≡ undrawn (cond b n m) ps ts
-      go true e some = rw (ne_eqb n 0 some) refl
-      go false e some = rw e refl
+      go true z = rw (ne_eqb n 0 (some_number e)) refl
+      go false z = rw z refl
 
   -- by neither: drawn at the clearance in force, as by hand; a survey that is refused by itself is refused either way
   pub drawn-by : bad_calendar t ≡ false → none_holds t minute ≡ false

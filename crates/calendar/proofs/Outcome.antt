@@ -1,5 +1,6 @@
 -- What the call returns and leaves in the slices, each way it goes; and the other promises, which follow from its equation.
 -- Assumes nothing.
+use Rattle.std.specs.Prelude.{Ok, Err}
 use Prim.Native.Nat.{ℕ}
 use mathlib.Core.Path.{◌≡◌, refl, sym, ap, ◌∙◌, subst}
 use mathlib.Core.Bool.{Bool, true, false, cond}
@@ -7,6 +8,8 @@ use mathlib.Core.List.{List, [], ◌∷◌, ◌++◌}
 use lib.Dec.{eqb}
 use lib.Ieee.{Float}
 use borrow.Author.Tests.{eqb-false}
+use Rattle.rules.specs.Refusals.{refusal_number}
+use Rattle.rules.specs.declared.refusal.Refusal.{Refusal}
 use Rattle.rules.specs.Outputs.{first_of, Drawing}
 use Rattle.rules.specs.Closing.{ClosedIn}
 use Rattle.rules.specs.Resounding.{amended, undrawn, draw_amended, check_order}
@@ -15,7 +18,6 @@ use Rattle.rules.specs.declared.Drawn.{Drawn}
 use Rattle.drawing.specs.Draws.{Draws}
 use Rattle.drawing.proofs.Amended.{amended-closed}
 use Rattle.calendar.specs.ReadingAt.{reading_at}
-use Rattle.calendar.specs.declared.Reading.TheVariants.{Refused, Clearance}
 use Rattle.calendar.proofs.Calls.{clearance→, undrawn-by, drawn-by}
 use Rattle.calendar.proofs.Laws.{hand}
 
@@ -24,10 +26,11 @@ module _ (tc tk ta t : List ℕ) (minute : ℕ) (ps : List Float) (ts : List ℕ
   drawing = draw_by_calendar tc tk ta t minute ps ts
 
   -- the calendar refuses
-  pub refuses : (n : ℕ) (r : Drawn) → Refused n ≡ reading_at t minute → r ≡ (undrawn (first_of (check_order tc tk ta ++ (n, true) ∷ [])) ps ts).result
+  pub refuses : (e : Refusal) (r : Drawn) → Err e ≡ reading_at t minute
+      → r ≡ (undrawn (first_of (check_order tc tk ta ++ (refusal_number e, true) ∷ [])) ps ts).result
       → Draws drawing r ps ts
-  refuses n r read is =
-      let e = sym (undrawn-by tc tk ta t minute ps ts n read) in
+  refuses refusal r read is =
+      let e = sym (undrawn-by tc tk ta t minute ps ts refusal read) in
       record {
         result_is = is ∙ ap (λ (d : Drawing). d.result) e;
         points_are = ap (λ (d : Drawing). d.points) e;
@@ -36,7 +39,7 @@ module _ (tc tk ta t : List ℕ) (minute : ℕ) (ps : List Float) (ts : List ℕ
 
   module _ (r : Drawn) (points : List Float) (triangles : List ℕ) where
     -- it has a clearance
-    pub draws : (v : Float) → Clearance v ≡ reading_at t minute → Draws (draw_amended tc tk ta v ps ts) r points triangles → Draws drawing r points triangles
+    pub draws : (v : Float) → Ok v ≡ reading_at t minute → Draws (draw_amended tc tk ta v ps ts) r points triangles → Draws drawing r points triangles
     draws v read =
         let (lawful, held, is) = clearance→ t minute v read in
         subst (λ (d : Drawing). Draws d r points triangles) (ap (λ (w : Float). draw_amended tc tk ta w ps ts) is

@@ -6,18 +6,12 @@ ghost use Rattle.std.specs.Prelude.{◌≡◌, true, ◌&&◌, [], ◌∷◌, �
 ghost use Rattle.rules.specs.Closing.{ClosedIn};
 ghost use Rattle.rules.specs.Resounding.{amended, draw_amended, check_order};
 ghost use Rattle.rules.specs.Calendar.{period_size, period_at, holds_at, right_period, clearance_at, draw_by_calendar, InForce};
+ghost use Rattle.rules.specs.Refusals.{refusal_number};
 ghost use Rattle.rules.specs.Outputs.{first_of};
 ghost use Rattle.drawing.specs.Draws.{Draws};
 ghost use Rattle.calendar.specs.ReadingAt.{reading_at};
 
-use rules::{Drawn, Period};
-
-// What a calendar reads at a minute: a refusal's number, 16 or 17, or the clearance in force.
-#[derive(Clone, Copy)]
-enum Reading {
-    Refused(u32),
-    Clearance(f32),
-}
+use rules::{Drawn, Period, Refusal};
 
 // The size of a record in bytes.
 const SIZE: usize = 12;
@@ -56,40 +50,39 @@ fn holds(p: Period, minute: u32) -> bool
 }
 
 // Checks 16 and 17, and the clearance in force at a minute: each record is read once, up to the first that breaks a rule.
-fn read(calendar: &[u8], minute: u32) -> Reading
+fn read(calendar: &[u8], minute: u32) -> Result<f32, Refusal>
     ensures { result ≡ reading_at calendar.now minute }
 {
     if calendar.len() % SIZE != 0 {
-        return Reading::Refused(16);
+        return Err(Refusal::Calendar);
     }
     let count = calendar.len() / SIZE;
-    let mut reading = Reading::Refused(17);
+    let mut reading = Err(Refusal::Minute);
     let mut ended: u32 = 0;
-    let mut k: usize = 0;
-    while k < count {
+    for k in 0..count {
         let p = period_at(calendar, k);
         if !follows(p, ended) {
-            return Reading::Refused(16);
+            return Err(Refusal::Calendar);
         }
         if holds(p, minute) {
-            reading = Reading::Clearance(p.clearance);
+            reading = Ok(p.clearance);
         }
         ended = p.until;
-        k += 1;
     }
     reading
 }
 
 // Where the calendar refuses: the first refusal of the survey by itself, and only then the calendar's.
-fn refused(cells: &[u8], corners: &[u8], amendments: &[u8], number: u32) -> Drawn
+fn refused(cells: &[u8], corners: &[u8], amendments: &[u8], refusal: Refusal) -> Drawn
     ensures { result ≡ record {
-      number = first_of (check_order cells.now corners.now amendments.now ++ (number, true) ∷ []);
+      number = first_of (check_order cells.now corners.now amendments.now ++ (refusal_number refusal, true) ∷ []);
       points = 0;
       triangles = 0;
     } }
 {
+    let first = checks::check_before(cells, corners, amendments, refusal);
     Drawn {
-        number: checks::check_before(cells, corners, amendments, number),
+        number: u32::from(first),
         points: 0,
         triangles: 0,
     }
@@ -116,9 +109,7 @@ pub fn draw(
         (clearance_at calendar.now minute) result points.new triangles.new }
 {
     match read(calendar, minute) {
-        Reading::Refused(number) => refused(cells, corners, amendments, number),
-        Reading::Clearance(clearance) => drawing::draw(
-            cells, corners, amendments, clearance, points, triangles,
-        ),
+        Ok(clearance) => drawing::draw(cells, corners, amendments, clearance, points, triangles),
+        Err(refusal) => refused(cells, corners, amendments, refusal),
     }
 }

@@ -12,10 +12,6 @@ use Rattle.cells.specs.Laid.{octant_key}
 pub size_fits : (l : ℕ) → l ≤ 10 → 2 ^ l ≤ 1024
 size_fits l h = pow-le-pow_right {n = 2} (lit≤ tt) h
 
--- a shift of 1 loses no bit
-pub shifted : (l : ℕ) → l ≤ 10 → (1 * 2 ^ l) % 18446744073709551616 ≡ 2 ^ l
-shifted l h = omega (arith, size_fits l h)
-
 -- the key of each corner
 pub octant-key-is : (s : ℕ) (p d : Place) (i : ℕ) → i < 8 → key_of (get_or (octants s p) i d) ≡ key_of p + octant_key i s
 unfolding key_of octant_key

@@ -2,11 +2,14 @@
 // Uses records.
 #![tactic(auto)]
 
-ghost use Rattle.std.specs.Prelude.{◌≡◌, true, false, ◌+◌, ◌*◌, ◌^◌, ◌≤◌, ◌<◌, ◌/◌, length};
+ghost use Rattle.std.specs.Prelude.{◌≡◌, true, ◌+◌, ◌*◌, ◌^◌, ◌≤◌, ◌<◌, ◌/◌, length, cond, OnOk};
 ghost use Rattle.base.specs.Lists.{any};
+ghost use Rattle.rules.specs.Refusals.{outcome};
 ghost use Rattle.rules.specs.Survey.{entries, cells_of};
 ghost use Rattle.rules.specs.Outputs.{entries_right};
 ghost use Rattle.cells.specs.Laid.{octant_key, written_at, too_deep, key_in, level_in, LaidTo, Laid};
+
+use rules::Refusal;
 
 // Check 3: each entry is 0, or the next free record and after its own, and the records are as many as the entries say.
 pub fn entries_right(cells: &[u8], count: usize) -> bool
@@ -14,22 +17,16 @@ pub fn entries_right(cells: &[u8], count: usize) -> bool
     requires cells_len_bound { length cells.now ≤ 8196 }
     ensures { result ≡ entries_right 0 0 (entries cells.now) }
 {
-    let mut n: usize = 0;
-    let mut k: usize = 0;
-    while n < count {
+    let mut k = 0;
+    for n in 0..count {
         let e = records::cell_entry(cells, n) as usize;
         if e == 0 {
-            n += 1;
             continue;
         }
-        if e != 1 + 8 * k {
-            return false;
-        }
-        if e <= n {
+        if e != 1 + 8 * k || e <= n {
             return false;
         }
         k += 1;
-        n += 1;
     }
     count == 1 + 8 * k
 }
@@ -74,49 +71,43 @@ fn put_children(laid: &mut [u64], at: usize, key: u64, level: u8)
     ensures { laid.new ≡ written_at (λ i. key + octant_key i (2 ^ level) + 281474976710656 * level) at 8 laid.old }
 {
     let size = size_of(level);
-    let mut i: usize = 0;
-    while i < 8 {
-        laid[at + i] = key + octant_key(i, size) + 281474976710656 * (level as u64);
-        i += 1;
+    for i in 0..8 {
+        laid[at + i] = key + octant_key(i, size) + 281474976710656 * u64::from(level);
     }
 }
 
 // The pass of `lay_out` over the records, with record 0 entered. Children come after their parents, so that one pass is enough.
-fn enter_children(cells: &[u8], count: usize, laid: &mut [u64]) -> bool
-    requires count_value { count ≡ length cells.now / 4 }
-    requires cells_value { entries_right 0 0 (entries cells.now) ≡ true }
-    requires count_in_bounds { count ≤ length laid.old }
+fn enter_children(cells: &[u8], laid: &mut [u64]) -> Result<(), Refusal>
+    requires right { entries_right 0 0 (entries cells.now) ≡ true }
+    requires room { length cells.now / 4 ≤ length laid.old }
     requires laid_to { LaidTo cells.now laid.old 1 }
-    ensures value { result ≡ any too_deep (cells_of cells.now) }
-    ensures laid { result ≡ false → Laid cells.now laid.new }
+    ensures value { outcome result ≡ cond (any too_deep (cells_of cells.now)) 4 0 }
+    ensures laid { OnOk result (Laid cells.now laid.new) }
 {
-    let mut n: usize = 0;
-    while n < count {
+    for n in 0..cells.len() / 4 {
         let e = records::cell_entry(cells, n) as usize;
         if e == 0 {
-            n += 1;
             continue;
         }
         let level = level_in(laid, n);
         if level == 0 {
-            return true;
+            return Err(Refusal::TooDeep);
         }
         let key = key_in(laid, n);
         put_children(laid, e, key, level - 1);
-        n += 1;
     }
-    false
+    Ok(())
 }
 
-// Check 4, and the table of the cells: true if a cell of depth 10 is split; if none is, the table holds the cells of all records.
-pub fn lay_out(cells: &[u8], count: usize, laid: &mut [u64]) -> bool
+// Check 4, and the table of the cells: refused if a cell of depth 10 is split; if none is, the table holds the cells of all records.
+pub fn lay_out(cells: &[u8], count: usize, laid: &mut [u64]) -> Result<(), Refusal>
     requires count_value { count ≡ length cells.now / 4 }
     requires cells_value { entries_right 0 0 (entries cells.now) ≡ true }
     requires count_in_bounds { count ≤ length laid.old }
-    ensures value { result ≡ any too_deep (cells_of cells.now) }
-    ensures laid { result ≡ false → Laid cells.now laid.new }
+    ensures value { outcome result ≡ cond (any too_deep (cells_of cells.now)) 4 0 }
+    ensures laid { OnOk result (Laid cells.now laid.new) }
 {
     // The box: key 0, level 10.
     laid[0] = 2814749767106560;
-    enter_children(cells, count, laid)
+    enter_children(cells, laid)
 }

@@ -2,5 +2,5 @@ pub mod Tables
 pub mod Marking
 pub mod Corners
 pub mod Order
-pub mod Passed
+pub mod PassedTables
 pub mod Amended

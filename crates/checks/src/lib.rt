@@ -2,9 +2,10 @@
 // cells and octants.
 #![tactic(auto)]
 
-ghost use Rattle.std.specs.Prelude.{◌≡◌, true, not, [], ◌∷◌, ◌++◌, ◌+◌, ◌*◌, ◌≤◌, ◌<◌, ◌/◌, length, get_or, set, take, ltb, eqb};
+ghost use Rattle.std.specs.Prelude.{◌≡◌, true, OnOk, not, [], ◌∷◌, ◌++◌, ◌+◌, ◌*◌, ◌≤◌, ◌<◌, ◌/◌, length, get_or, set, take, ltb, eqb};
 ghost use Rattle.base.specs.Lists.{all, any, count as up_to};
 ghost use Rattle.rules.specs.Survey.{record_count, entries, cells_of, corners_of};
+ghost use Rattle.rules.specs.Refusals.{refusal_number, outcome};
 ghost use Rattle.rules.specs.Outputs.{corner_limit, bad_table, entries_right, rising, corners_right, in_range, first_of, table_checks, survey_refusal, checks};
 ghost use Rattle.rules.specs.Resounding.{check_amended, check_order};
 ghost use Rattle.records.specs.Keys.{places_of};
@@ -13,12 +14,17 @@ ghost use Rattle.octants.specs.Octants.{LookedUp};
 ghost use Rattle.checks.specs.Marks.{marked};
 ghost use Rattle.checks.specs.Tables.{Tables};
 
+mod passed;
+
+pub use passed::Passed;
+use rules::Refusal;
+
 // Checks 1 and 2: empty, not whole records of n bytes, or over the limit.
 fn bad_table(t: &[u8], n: usize, limit: usize) -> bool
     requires { 1 ≤ n }
     ensures { result ≡ bad_table n limit t.now }
 {
-    if t.len() == 0 {
+    if t.is_empty() {
         return true;
     }
     if t.len() % n != 0 {
@@ -32,46 +38,27 @@ fn bad_sounding(corners: &[u8], count: usize) -> bool
     requires { count ≡ record_count corners.now }
     ensures { result ≡ any (λ k. not (in_range k.sounding)) (corners_of corners.now) }
 {
-    let mut n: usize = 0;
-    while n < count {
+    for n in 0..count {
         let c = records::corner_at(corners, n);
         if !records::in_range(c.sounding) {
             return true;
         }
-        n += 1;
     }
     false
 }
 
-// Sets one mark.
-fn mark(marks: &mut [u8], at: usize)
-    requires { at < length marks.old }
-    ensures { marks.new ≡ set marks.old at 1 }
+// Marks each record in the table of cells' corners. False if one is no record: that is the first half of check 6, and no refusal of its own.
+fn mark_all(octants: &[u16], count: usize, marks: &mut [u8]) -> bool
+    requires { count ≤ length marks.old }
+    ensures value { result ≡ all (λ k. ltb k count) octants.now }
+    ensures marks_after { result ≡ true → marks.new ≡ marked octants.now marks.old }
 {
-    marks[at] = 1;
-}
-
-// A number of the table as an index.
-fn wide(x: u16) -> usize
-    ensures { result ≡ x }
-{
-    x as usize
-}
-
-// Marks each record of the first `len` in the table of cells' corners. False if one is no record.
-fn mark_all(octants: &[u16], len: usize, count: usize, marks: &mut [u8]) -> bool
-    requires { (len ≤ length octants.now) × (count ≤ length marks.old) }
-    ensures value { result ≡ all (λ k. ltb k count) (take len octants.now) }
-    ensures marks_after { result ≡ true → marks.new ≡ marked (take len octants.now) marks.old }
-{
-    let mut i: usize = 0;
-    while i < len {
-        let at = wide(octants[i]);
+    for octant in octants {
+        let at = usize::from(*octant);
         if count <= at {
             return false;
         }
-        mark(marks, at);
-        i += 1;
+        marks[at] = 1;
     }
     true
 }
@@ -81,12 +68,10 @@ fn all_marked(marks: &[u8], count: usize) -> bool
     requires { count ≤ length marks.now }
     ensures { result ≡ all (λ k. eqb (get_or marks.now k 0) 1) (up_to 0 count) }
 {
-    let mut k: usize = 0;
-    while k < count {
+    for k in 0..count {
         if marks[k] != 1 {
             return false;
         }
-        k += 1;
     }
     true
 }
@@ -102,105 +87,97 @@ fn corners_right(cells: &[u8], laid: &[u64], corners: &[u8], octants: &[u16]) ->
 {
     let count = corners.len() / records::SIZE;
     let mut marks = [0u8; 4872];
-    if !mark_all(octants, 8 * (cells.len() / 4), count, &mut marks) {
+    if !mark_all(&octants[..8 * (cells.len() / 4)], count, &mut marks) {
         return false;
     }
     all_marked(&marks, count)
 }
 
-// Checks 1 to 6: the number of the first that applies, or 0. Then the tables hold the cells and their corners.
-pub fn read(cells: &[u8], corners: &[u8], laid: &mut [u64], octants: &mut [u16]) -> u32
+// Checks 1 to 6: the first that applies refuses. Where none does, the tables hold the cells and their corners.
+pub fn read(
+    cells: &[u8],
+    corners: &[u8],
+    laid: &mut [u64],
+    octants: &mut [u16],
+) -> Result<(), Refusal>
     requires { (length laid.old ≡ 2049) × (length octants.old ≡ 16392) }
-    ensures value { result ≡ first_of (table_checks cells.now corners.now) }
-    ensures tables { result ≡ 0 → Tables cells.now corners.now laid.new octants.new }
+    ensures value { outcome result ≡ first_of (table_checks cells.now corners.now) }
+    ensures tables { OnOk result (Tables cells.now corners.now laid.new octants.new) }
 {
     if bad_table(cells, 4, 8196) {
-        return 1;
+        return Err(Refusal::CellTable);
     }
     if bad_table(corners, records::SIZE, records::LIMIT) {
-        return 2;
+        return Err(Refusal::CornerTable);
     }
     let records = cells.len() / 4;
     let count = corners.len() / records::SIZE;
     if !cells::entries_right(cells, records) {
-        return 3;
+        return Err(Refusal::CellEntry);
     }
-    if cells::lay_out(cells, records, laid) {
-        return 4;
-    }
+    cells::lay_out(cells, records, laid)?;
     if !records::corners_rise(corners, count) {
-        return 5;
+        return Err(Refusal::CornerOrder);
     }
     octants::fill(corners, laid, records, octants);
     if !corners_right(cells, laid, corners, octants) {
-        return 6;
+        return Err(Refusal::CornerSet);
     }
-    0
+    Ok(())
 }
 
-// Check 7, of tables that checks 1 to 6 pass: 7 or 0.
-fn soundings(cells: &[u8], corners: &[u8]) -> u32
+// Check 7, of tables that checks 1 to 6 pass.
+fn soundings(cells: &[u8], corners: &[u8]) -> Result<(), Refusal>
     requires { first_of (table_checks cells.now corners.now) ≡ 0 }
-    ensures { result ≡ survey_refusal cells.now corners.now }
+    ensures { outcome result ≡ survey_refusal cells.now corners.now }
 {
     if bad_sounding(corners, corners.len() / records::SIZE) {
-        return 7;
+        return Err(Refusal::Sounding);
     }
-    0
+    Ok(())
 }
 
-// Checks 7 and 8, of tables that checks 1 to 6 pass: the number of the first that applies, or 0.
-pub fn refusal(cells: &[u8], corners: &[u8], clearance: f32) -> u32
+// Checks 7 and 8, of tables that checks 1 to 6 pass: the first that applies refuses.
+pub fn refusal(cells: &[u8], corners: &[u8], clearance: f32) -> Result<(), Refusal>
     requires { first_of (table_checks cells.now corners.now) ≡ 0 }
-    ensures { result ≡ first_of (checks cells.now corners.now clearance) }
+    ensures { outcome result ≡ first_of (checks cells.now corners.now clearance) }
 {
-    let number = soundings(cells, corners);
-    if number != 0 {
-        return number;
-    }
+    soundings(cells, corners)?;
     if !records::in_range(clearance) {
-        return 8;
+        return Err(Refusal::Clearance);
     }
-    0
+    Ok(())
 }
 
 // The rest of a check of the survey by itself where there are amendments: 14 and 15, then 7 of the corner table as amended.
-fn check_amended(cells: &[u8], corners: &[u8], amendments: &[u8]) -> u32
-    requires { first_of (table_checks cells.now corners.now) ≡ 0 }
-    ensures { result ≡ check_amended cells.now corners.now amendments.now }
+fn check_amended(survey: Passed, amendments: &[u8]) -> Result<(), Refusal>
+    ensures { outcome result ≡ check_amended survey.entry.cells.now survey.entry.corners.now amendments.now }
 {
     let mut table = [0u8; records::LIMIT];
-    let number = amendments::refusal(cells, corners, amendments, &mut table);
-    if number != 0 {
-        return number;
-    }
-    let n = corners.len();
-    soundings(cells, &table[..n])
+    let survey = survey.amended(amendments, &mut table)?;
+    soundings(survey.cells, survey.corners)
 }
 
-// A check of the survey by itself: 1 to 6, 14, 15, then 7. The number of the first that applies, or 0.
-pub fn check(cells: &[u8], corners: &[u8], amendments: &[u8]) -> u32
-    ensures { result ≡ check_amended cells.now corners.now amendments.now }
+// A check of the survey by itself: 1 to 6, 14, 15, then 7. The first that applies refuses.
+pub fn check(cells: &[u8], corners: &[u8], amendments: &[u8]) -> Result<(), Refusal>
+    ensures { outcome result ≡ check_amended cells.now corners.now amendments.now }
 {
     let mut laid = [0u64; 2049];
     let mut octants = [0u16; 16392];
-    let number = read(cells, corners, &mut laid, &mut octants);
-    if number != 0 {
-        return number;
-    }
-    if amendments.len() == 0 {
+    let survey = Passed::read(cells, corners, &mut laid, &mut octants)?;
+    if amendments.is_empty() {
         return soundings(cells, corners);
     }
-    check_amended(cells, corners, amendments)
+    check_amended(survey, amendments)
 }
 
-// Where a call refuses something that it is lent besides, by a number: the first refusal of the survey by itself, and only then that number.
-pub fn check_before(cells: &[u8], corners: &[u8], amendments: &[u8], number: u32) -> u32
-    ensures { result ≡ first_of (check_order cells.now corners.now amendments.now ++ (number, true) ∷ []) }
+// Where a call refuses something that it is lent besides: the first refusal of the survey by itself, and only then that one.
+pub fn check_before(cells: &[u8], corners: &[u8], amendments: &[u8], refusal: Refusal) -> Refusal
+    ensures { refusal_number result ≡ first_of (check_order cells.now corners.now amendments.now
+        ++ (refusal_number refusal, true) ∷ []) }
 {
-    let first = check(cells, corners, amendments);
-    if first != 0 {
-        return first;
+    match check(cells, corners, amendments) {
+        Ok(()) => refusal,
+        Err(first) => first,
     }
-    number
 }

@@ -19,9 +19,8 @@ ghost use Rattle.drawing.specs.Draws.{Draws};
 ghost use Rattle.volume.specs.Reckons.{drawn_part, sixfold_from, Reckons};
 ghost use Rattle.clearance.specs.Version.{version};
 ghost use Rattle.clearance.specs.Reply.{reply_of, told};
-ghost use Rattle.rules.specs.declared.Answer.TheVariants.{Found};
 
-use rules::{Answer, AskedEdge, Drawn, Edge, End, Passage, Water};
+use rules::{AskedEdge, Drawn, Edge, End, Passage, Refusal, Water};
 use water::Reference;
 
 // The answer of an enquiry as plain numbers: the number returned, whether the edge is crossing, the point's number and its place, and the wet end: 1 the
@@ -38,6 +37,18 @@ pub struct Reply {
     pub wet_end: u32,
 }
 
+// The reply that tells nothing: that of an even edge.
+const NOTHING: Reply = Reply {
+    number: 0,
+    crossing: 0,
+    point: 0,
+    x: 0.0,
+    y: 0.0,
+    z: 0.0,
+    wet_end: 0,
+};
+
+// The number of a wet end.
 fn end_number(end: End) -> u32
     ensures { result ≡ end_number end }
 {
@@ -47,45 +58,25 @@ fn end_number(end: End) -> u32
     }
 }
 
-fn edge_reply(e: Edge) -> Reply
-    ensures { result ≡ reply_of (answered (Found e)) }
+// An answer as plain numbers. What is not there is 0.
+fn reply_of(answer: Result<Edge, Refusal>) -> Reply
+    ensures { result ≡ reply_of (answered answer) }
 {
-    match e {
-        Edge::Even => Reply {
-            number: 0,
-            crossing: 0,
-            point: 0,
-            x: 0.0,
-            y: 0.0,
-            z: 0.0,
-            wet_end: 0,
+    match answer {
+        Err(refusal) => Reply {
+            number: u32::from(refusal),
+            ..NOTHING
         },
-        Edge::Crossing(n, x, y, z, end) => Reply {
+        Ok(Edge::Even) => NOTHING,
+        Ok(Edge::Crossing(point, x, y, z, end)) => Reply {
             number: 0,
             crossing: 1,
-            point: n,
+            point,
             x,
             y,
             z,
             wet_end: end_number(end),
         },
-    }
-}
-
-fn reply_of(a: Answer) -> Reply
-    ensures { result ≡ reply_of (answered a) }
-{
-    match a {
-        Answer::Refused(n) => Reply {
-            number: n,
-            crossing: 0,
-            point: 0,
-            x: 0.0,
-            y: 0.0,
-            z: 0.0,
-            wet_end: 0,
-        },
-        Answer::Found(e) => edge_reply(e),
     }
 }
 
@@ -105,7 +96,10 @@ pub extern "C" fn clearance_version() -> u32
 pub extern "C" fn clearance_check(cells: &[u8], corners: &[u8], amendments: &[u8]) -> u32
     ensures { result ≡ check_amended cells.now corners.now amendments.now }
 {
-    checks::check(cells, corners, amendments)
+    match checks::check(cells, corners, amendments) {
+        Ok(()) => 0,
+        Err(refusal) => u32::from(refusal),
+    }
 }
 
 // The edge enquiry of a survey as amended.

@@ -1,18 +1,18 @@
 -- The two passes over the clearances: what is known before each turn.
-use Prim.Native.Nat.{ℕ, ◌+◌, ◌≤◌, ◌<◌}
+use Prim.Native.Nat.{ℕ, ◌+◌, ◌-◌, ◌≤◌, ◌<◌}
 use mathlib.Core.Path.{◌≡◌, refl, sym, ap, ◌∙◌}
 use mathlib.Core.Bool.{Bool, true, false, not, cond}
 use mathlib.Core.List.{List, [], ◌∷◌}
 use native.Mathlib.Omega.{arith}
-use lib.Dec.{eqb}
 use lib.Ieee.{Float}
-use lib.ListN.{length, get_or, drop, drop_of_length-le}
-use borrow.Author.Tests.{eq-eqb, ne_eqb, lt-ltb, le-ltb}
+use lib.ListN.{length, get_or, take, drop, drop_of_length-le}
+use Rattle.std.proofs.lemmas.List.{take_rest}
+use Rattle.std.proofs.lemmas.Grind.{get_or_after_one}
+use borrow.Author.Tests.{ne_eqb, le-ltb}
 use Rattle.base.specs.Lists.{any}
 use Rattle.base.proofs.Below.{rest, any_hit, any_miss}
 use Rattle.rules.specs.Outputs.{in_range, first_of}
 use Rattle.rules.specs.Convoy.{most_boats, clearance_checks}
-use Rattle.ways.proofs.Checks.{or_true}
 use Rattle.convoy.specs.GreatestOf.{greater_of, greatest_after, greatest_of}
 
 -- ---- checks 21 and 8
@@ -21,15 +21,6 @@ abbrev outside : Float → Bool
 outside c = not (in_range c)
 
 module _ (cs : List Float) where
-  -- 21 by the count alone
-  pub none-there : length cs ≡ 0 → 21 ≡ first_of (clearance_checks cs)
-  unfolding clearance_checks
-  none-there e = rw (eq-eqb (length cs) 0 e)
-
-  pub too_many : most_boats < length cs → 21 ≡ first_of (clearance_checks cs)
-  unfolding clearance_checks
-  too_many h = rw (lt-ltb most_boats (length cs) h, or_true (eqb (length cs) 0))
-
   -- of as many as there may be, each is looked at: whether one is outside is whether one of those left is
   pub record Looked (k : ℕ) : Type 0 where
     pub some : length cs ≡ 0 → ⊥
@@ -62,6 +53,12 @@ module _ (cs : List Float) where
 -- ---- the greatest
 
 module _ (cs : List Float) where
+  -- a clearance behind the first, by its position among these
+  pub behind_first : (i : ℕ) (d : Float) → get_or (take (length cs - 1) (drop 1 cs)) i d ≡ get_or cs (i + 1) d
+  behind_first i d =
+      ap (λ (l : List Float). get_or l i d) (take_rest cs 1) ∙ get_or_after_one cs i d
+      ∙ ap (λ (j : ℕ). get_or cs j d) (let e : 1 + i ≡ i + 1 = omega arith in e)
+
   -- the greatest of the best so far and those left is the greatest of all
   pub record Passed (best : Float) (k : ℕ) : Type 0 where
     pub upto : k ≤ length cs

@@ -2,6 +2,7 @@
 #![tactic(auto)]
 
 ghost use Rattle.std.specs.Prelude.{◌≡◌, true, [], ◌∷◌, ◌++◌, ℕ, ◌≤◌, length};
+ghost use Rattle.rules.specs.Refusals.{refusal_number, outcome};
 ghost use Rattle.rules.specs.Outputs.{first_of};
 ghost use Rattle.rules.specs.Resounding.{amended, check_order};
 ghost use Rattle.rules.specs.Ways.{passage_amended, Means};
@@ -9,32 +10,27 @@ ghost use Rattle.rules.specs.Convoy.{convoy_graph, clearance_checks, convoy_amen
 ghost use Rattle.ways.specs.Shows.{Shows, shown_by};
 ghost use Rattle.convoy.specs.GreatestOf.{greater_of, greatest_of};
 
-use rules::Passage;
+use rules::{Passage, Refusal};
 
 // The most boats of a convoy.
 const MOST: usize = 16;
 
-// Checks 21 and 8: the number of the first that applies, or 0. Of a convoy that 21 refuses no clearance is read.
-fn refusal(clearances: &[f32]) -> u32
-    ensures { result ≡ first_of (clearance_checks clearances.now) }
+// Checks 21 and 8: the first that applies refuses. Of a convoy that 21 refuses no clearance is read.
+fn refusal(clearances: &[f32]) -> Result<(), Refusal>
+    ensures { outcome result ≡ first_of (clearance_checks clearances.now) }
 {
-    if clearances.len() == 0 {
-        return 21;
+    if clearances.is_empty() || clearances.len() > MOST {
+        return Err(Refusal::Convoy);
     }
-    if clearances.len() > MOST {
-        return 21;
-    }
-    let mut k: usize = 0;
-    while k < clearances.len() {
-        if !records::in_range(clearances[k]) {
-            return 8;
+    for clearance in clearances {
+        if !records::in_range(*clearance) {
+            return Err(Refusal::Clearance);
         }
-        k += 1;
     }
-    0
+    Ok(())
 }
 
-// The greater of two clearances; the former where neither is.
+// The greater of two clearances; the former where neither is, which `f32::max` does not say of the two zeros.
 fn greater(a: f32, b: f32) -> f32
     ensures { result ≡ greater_of a b }
 {
@@ -50,23 +46,22 @@ fn greatest(clearances: &[f32]) -> f32
     ensures { result ≡ greatest_of clearances.now }
 {
     let mut best = clearances[0];
-    let mut k: usize = 1;
-    while k < clearances.len() {
-        best = greater(best, clearances[k]);
-        k += 1;
+    for clearance in &clearances[1..] {
+        best = greater(best, *clearance);
     }
     best
 }
 
 // Where 21 or 8 refuses the clearances: the first refusal of the survey by itself, and only then that one.
-fn refused(cells: &[u8], corners: &[u8], amendments: &[u8], number: u32) -> Passage
+fn refused(cells: &[u8], corners: &[u8], amendments: &[u8], refusal: Refusal) -> Passage
     ensures { result ≡ record {
-      number = first_of (check_order cells.now corners.now amendments.now ++ (number, true) ∷ []);
+      number = first_of (check_order cells.now corners.now amendments.now ++ (refusal_number refusal, true) ∷ []);
       corners = 0;
     } }
 {
+    let first = checks::check_before(cells, corners, amendments, refusal);
     Passage {
-        number: checks::check_before(cells, corners, amendments, number),
+        number: u32::from(first),
         corners: 0,
     }
 }
@@ -92,9 +87,8 @@ pub fn find(
         → Shows (passage_amended cells.now corners.now amendments.now (boat_clearance clearances.now k) start end
         way.old work.old) result way.new work.new }
 {
-    let number = refusal(clearances);
-    if number != 0 {
-        return refused(cells, corners, amendments, number);
+    if let Err(refusal) = refusal(clearances) {
+        return refused(cells, corners, amendments, refusal);
     }
     ways::find(
         cells,

@@ -47,10 +47,3 @@ listed tc tk ta clearance r ps ts before after most end d w size =
       room = omega (arith, w.ends, whole, size);
       slice = w.slice ∙ ap (λ (l : List ℕ). written_at 0 l before) same;
     }
-
--- a text that is written to the front of a slice stands there
-pub front : {text before after : List ℕ} {most end : ℕ} → Wrote text most 0 before after end → take end after ≡ text
-unfolding written_at
-front {text} {before} {after} {most} {end} w =
-    let long : end ≡ length text = omega (arith, w.ends) in
-    ap (take end) w.slice ∙ rw long (take-append_seam text (drop (length text) before))

@@ -7,6 +7,9 @@ use mathlib.Core.List.{List, [], ◌∷◌}
 use lib.Dec.{T, eqb, ltb}
 use lib.ListN.{length}
 use lib.Ieee.{Float}
+use Rattle.std.specs.Prelude.{Result, Ok, Err, IsErrAnd}
+use Rattle.rules.specs.Refusals.{refusal_number}
+use Rattle.rules.specs.declared.refusal.Refusal.{Refusal}
 use borrow.Author.Tests.{ne_eqb}
 use Rattle.rules.specs.Edges.{point_edges}
 use Rattle.rules.specs.Steps.{all_triangles}
@@ -16,7 +19,7 @@ use Rattle.rules.specs.declared.Drawn.{Drawn}
 use Rattle.octree.proofs.Accepted.{drawable→}
 use Rattle.closing.proofs.Closing.{closes}
 use Rattle.places.proofs.OnEdge.{on_edge}
-use Rattle.drawing.specs.Draws.{Draws}
+use Rattle.drawing.specs.Draws.{Draws, drawn_of}
 use Rattle.drawing.proofs.Drawn.{given, draw-is, both_fit, drawn-fits, closed_in}
 
 abbrev pub returned : ℕ → ℕ → ℕ → Drawn
@@ -96,6 +99,12 @@ module _ (tc tk : List ℕ) (clearance : Float) (ps : List Float) (ts : List ℕ
           points_are = p ∙ sym (ap (λ (d : Drawing). d.points) d);
           triangles_are = t ∙ sym (ap (λ (d : Drawing). d.triangles) d);
         }
+
+-- a call that passes on a refusal returns what the refusal says
+pub refused_with : (d : Drawing) (r : Result Drawn Refusal) (e : Refusal) {points : List Float} {triangles : List ℕ} → IsErrAnd r (λ y. y ≡ e)
+    → Draws d (returned (refusal_number e) 0 0) points triangles → Draws d (drawn_of r) points triangles
+refused_with d (Ok x) e is = absurd is
+refused_with d (Err y) e {points} {triangles} is = subst (λ (u : Refusal). Draws d (returned (refusal_number u) 0 0) points triangles) (sym is)
 
 -- what the rules draw is closed wherever the number is 0
 pub drawn-closed : (tc tk : List ℕ) (clearance : Float) (ps : List Float) (ts : List ℕ) (r : Drawn) (points : List Float) (triangles : List ℕ)

@@ -6,14 +6,16 @@ use mathlib.Core.Logic.{◌⊎◌, inl, inr}
 use mathlib.Core.Bool.{true, false, ◌&&◌}
 use mathlib.Core.List.{List, [], ◌∷◌}
 use lib.Dec.{T, leb, ltb, leb→le}
+use lib.ListN.{length}
 use lib.Ieee.{Float}
 use borrow.Author.Tests.{le-leb}
 use Rattle.base.proofs.Tests.{either, and→}
+use Rattle.rules.specs.Edges.{point_edges}
 use Rattle.rules.specs.Outputs.{first_of, accepted, survey_of}
 use Rattle.across.specs.Across.{Beyond}
+use Rattle.edges.specs.Tables.{Twins}
 use Rattle.crossings.specs.Crossings.{Crossings}
 use Rattle.triangles.specs.Settled.{Known}
-use Rattle.drawing.specs.Filled.{Filled}
 use Rattle.drawing.proofs.Slices.{none_short}
 use Rattle.drawing.proofs.Drawn.{both_fit}
 
@@ -34,15 +36,15 @@ module _ (a b n m number : ℕ) (is : number ≡ first_of ((9, ltb a n) ∷ (10,
       (λ i. le-leb n a both.0 i && le-leb m b both.1 i)
 
 -- the tables that the leaves are drawn from
-abbrev pub known : (tc tk : List ℕ) (clearance : Float) {across crossings slots carriers twins : List ℕ} {n : ℕ}
+abbrev pub known : (tc tk : List ℕ) (clearance : Float) {across crossings twins : List ℕ} {n : ℕ}
     → accepted tc tk clearance ≡ true → Beyond tc across → Crossings (survey_of tc tk clearance) tc crossings
-    → Filled tc tk clearance slots carriers twins n → Known tc across crossings twins n
-known tc tk clearance ok beyond crossed f = record {
+    → Twins (survey_of tc tk clearance) twins → n ≡ length (point_edges (survey_of tc tk clearance)) → Known tc across crossings twins n
+known tc tk clearance ok beyond crossed twin count = record {
   corners = tk;
   clearance = clearance;
   passed = ok;
   beyond = beyond;
   crossed = crossed;
-  twin = f.twin;
-  count = f.count;
+  twin = twin;
+  count = count;
 }

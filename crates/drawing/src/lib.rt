@@ -3,193 +3,192 @@
 // triangles.
 #![tactic(auto)]
 
-ghost use Rattle.std.specs.Prelude.{◌≡◌, true, [], ◌∷◌, ◌*◌, ◌≤◌, ltb, length};
-ghost use Rattle.rules.specs.Outputs.{first_of, table_checks, accepted, drawing_checks, drawable, draw};
+ghost use Rattle.std.specs.Prelude.{◌≡◌, true, [], ◌∷◌, ◌*◌, ◌≤◌, OnOk, ltb, length};
+ghost use Rattle.rules.specs.Refusals.{refusal_number, outcome};
+ghost use Rattle.rules.specs.Edges.{point_edges};
+ghost use Rattle.rules.specs.Outputs.{first_of, table_checks, drawing_checks, drawable, draw};
 ghost use Rattle.rules.specs.Resounding.{amended, draw_amended};
 ghost use Rattle.rules.specs.Closing.{ClosedIn};
-ghost use Rattle.checks.specs.Tables.{Tables};
-ghost use Rattle.edges.specs.Tables.{Levels, Wets};
-ghost use Rattle.drawing.specs.Filled.{Read, Filled};
-ghost use Rattle.drawing.specs.Draws.{Draws};
+ghost use Rattle.edges.specs.Surveyed.{surveyed};
+ghost use Rattle.edges.specs.Tables.{Wets, Carriers};
+ghost use Rattle.crossings.specs.Filling.{Known};
+ghost use Rattle.drawing.specs.Draws.{Draws, drawn_of};
 
-use rules::Drawn;
+use checks::Passed;
+use edges::{Edges, Survey};
+use rules::{Drawn, Refusal};
 
-// Refusals 9 and 10: the number of the slice that is too short, or 0.
-fn shortage(points: usize, triangles: usize, n: usize, m: u32) -> u32
+// Checks 9 and 10: the first slice that is too short refuses.
+fn shortage(points: usize, triangles: usize, n: usize, m: u32) -> Result<(), Refusal>
     requires { n ≤ 14616 }
-    ensures { result ≡ first_of ((9, ltb points (3 * n)) ∷ (10, ltb triangles (3 * m)) ∷ []) }
+    ensures { outcome result ≡ first_of ((9, ltb points (3 * n)) ∷ (10, ltb triangles (3 * m)) ∷ []) }
 {
     if points < 3 * n {
-        return 9;
+        return Err(Refusal::PointSlice);
     }
     if triangles < 3 * (m as usize) {
-        return 10;
+        return Err(Refusal::TriangleSlice);
     }
-    0
+    Ok(())
 }
 
-// A result, from the number returned and both counts.
-fn result(number: u32, n: usize, m: u32) -> Drawn
+// A refusal before anything is drawn.
+fn refused(refusal: Refusal) -> Drawn
+    ensures { result ≡ record { number = refusal_number refusal; points = 0; triangles = 0 } }
+{
+    Drawn {
+        number: u32::from(refusal),
+        points: 0,
+        triangles: 0,
+    }
+}
+
+// What is returned of a drawing with these counts.
+fn counted(number: u32, n: usize, m: u32) -> Drawn
     requires { n ≤ 14616 }
     ensures { result ≡ record { number = number; points = n; triangles = m } }
 {
     Drawn {
-        number: number,
+        number,
         points: n as u32,
         triangles: m,
     }
 }
 
-// The checks of drawing after those of the tables and before those of the slices: 7, 8, then 12. The number of the first that applies, or 0: then it is known
+// The checks of drawing after those of the tables and before those of the slices: 7, 8, then 12. The first that applies refuses; where none does, it is known
 // which corners are wet.
-pub fn refusal(cells: &[u8], corners: &[u8], clearance: f32, wets: &mut [u8]) -> u32
+pub fn refusal(cells: &[u8], corners: &[u8], clearance: f32, wets: &mut [u8]) -> Result<(), Refusal>
     requires corners_value { first_of (table_checks cells.now corners.now) ≡ 0 }
     requires wets_len { length wets.old ≡ 4872 }
-    ensures value { result ≡ first_of (drawing_checks cells.now corners.now clearance) }
-    ensures wets { result ≡ 0 → Wets corners.now clearance wets.new }
+    ensures value { outcome result ≡ first_of (drawing_checks cells.now corners.now clearance) }
+    ensures wets { OnOk result (Wets corners.now clearance wets.new) }
 {
-    let number = checks::refusal(cells, corners, clearance);
-    if number != 0 {
-        return number;
-    }
+    checks::refusal(cells, corners, clearance)?;
     if edges::fill_wets(corners, clearance, wets) {
-        return 12;
+        return Err(Refusal::OpenAtBox);
     }
-    0
+    Ok(())
 }
 
-// Fills the tables of the edges and points of an accepted survey. How many points there are.
-fn fill_tables(
-    cells: &[u8],
-    corners: &[u8],
-    clearance: f32,
-    laid: &[u64],
-    octants: &[u16],
+// Draws a drawable survey whose points are numbered: each point's twin, what lies across each side of a cell, the points of each cell's edges, then the
+// triangles from these, and the points where neither slice is too short.
+fn draw_numbered(
+    edges: &Edges<'_, '_>,
     wets: &[u8],
-    slots: &mut [u16],
-    carriers: &mut [u16],
-    twins: &mut [u16],
-) -> usize
-    requires clearance_value { accepted cells.now corners.now clearance ≡ true }
-    requires read { Read cells.now corners.now clearance laid.now octants.now wets.now }
-    requires levels { Levels corners.now [] slots.old }
-    requires carriers_len { (length carriers.old ≡ 14616) × (length twins.old ≡ 14616) }
-    ensures { Filled cells.now corners.now clearance slots.new carriers.new twins.new result }
+    octants: &[u16],
+    laid: &[u64],
+    carriers: &[u16],
+    n: usize,
+    points: &mut [f32],
+    triangles: &mut [u32],
+) -> Drawn
+    requires drawable { drawable edges.now.survey.cells.now edges.now.survey.corners.now edges.now.survey.clearance ≡ true }
+    requires known { Known edges.now.survey.cells.now edges.now.survey.corners.now edges.now.survey.clearance wets.now
+        edges.now.slots.now octants.now laid.now }
+    requires carriers { Carriers (surveyed edges.now.survey) carriers.now }
+    requires count { n ≡ length (point_edges (surveyed edges.now.survey)) }
+    ensures { Draws (draw edges.now.survey.cells.now edges.now.survey.corners.now edges.now.survey.clearance
+        points.old triangles.old) result points.new triangles.new }
 {
-    edges::fill_levels(cells, corners, octants, laid, slots);
-    let n = edges::number_slots(cells, corners, clearance, wets, slots, carriers);
-    twins::fill(cells, corners, clearance, wets, slots, carriers, n, twins);
-    n
+    let mut twins = [0u16; 14616];
+    let mut across = [0u16; 12294];
+    let mut crossings = [0u16; 26637];
+    let cells = edges.survey.cells;
+    twins::fill(edges, wets, carriers, n, &mut twins);
+    across::fill(cells, &mut across);
+    crossings::fill(edges, wets, octants, laid, &mut crossings);
+    let room = triangles.len();
+    let write = 3 * n <= points.len();
+    let m = triangles::draw(cells, &across, &crossings, &twins, n, write, triangles);
+    if let Err(refusal) = shortage(points.len(), room, n, m) {
+        return counted(u32::from(refusal), n, m);
+    }
+    edges.write_points(carriers, n, points);
+    counted(0, n, m)
 }
 
-// Draws a drawable survey: its tables, the triangles, and the points where nothing refuses.
+// Draws a drawable survey: the levels of its edges and the numbers of its points, then the drawing from these.
 pub fn draw_drawable(
-    cells: &[u8],
-    corners: &[u8],
+    passed: Passed,
     clearance: f32,
-    laid: &[u64],
-    octants: &[u16],
     wets: &[u8],
     points: &mut [f32],
     triangles: &mut [u32],
 ) -> Drawn
-    requires clearance_value { drawable cells.now corners.now clearance ≡ true }
-    requires read { Read cells.now corners.now clearance laid.now octants.now wets.now }
-    ensures { Draws (draw cells.now corners.now clearance points.old triangles.old) result
+    requires drawable { drawable passed.cells.now passed.corners.now clearance ≡ true }
+    requires wets { Wets passed.corners.now clearance wets.now }
+    ensures { Draws (draw passed.entry.cells.now passed.entry.corners.now clearance points.old triangles.old) result
         points.new triangles.new }
 {
     let mut slots = [edges::table::EMPTY; 43848];
     let mut carriers = [0u16; 14616];
-    let mut twins = [0u16; 14616];
-    let n = fill_tables(
-        cells,
-        corners,
+    let survey = Survey {
+        cells: passed.cells,
+        corners: passed.corners,
         clearance,
-        laid,
-        octants,
-        wets,
-        &mut slots,
-        &mut carriers,
-        &mut twins,
-    );
-    let mut across = [0u16; 12294];
-    across::fill(cells, &mut across);
-    let mut crossings = [0u16; 26637];
-    crossings::fill(
-        cells,
-        corners,
-        clearance,
-        wets,
-        &slots,
-        octants,
-        laid,
-        &mut crossings,
-    );
-    let room = triangles.len();
-    let write = 3 * n <= points.len();
-    let m = triangles::draw(cells, &across, &crossings, &twins, n, write, triangles);
-    let number = shortage(points.len(), room, n, m);
-    if number != 0 {
-        return result(number, n, m);
-    }
-    edges::write_points(cells, corners, clearance, &slots, &carriers, n, points);
-    result(0, n, m)
+    };
+    let octants = passed.octants;
+    let laid = passed.laid;
+    edges::fill_levels(survey.cells, survey.corners, octants, laid, &mut slots);
+    let n = edges::number_slots(&survey, wets, &mut slots, &mut carriers);
+    let edges = Edges {
+        survey,
+        slots: &slots,
+    };
+    draw_numbered(&edges, wets, octants, laid, &carriers, n, points, triangles)
 }
 
-// Draws a survey whose tables checks 1 to 6 pass, with this corner table in force.
+// Draws a survey with this corner table in force.
 fn draw_in_force(
-    cells: &[u8],
-    corners: &[u8],
+    passed: Passed,
     clearance: f32,
-    laid: &[u64],
-    octants: &[u16],
     points: &mut [f32],
     triangles: &mut [u32],
-) -> Drawn
-    requires { Tables cells.now corners.now laid.now octants.now }
-    ensures { Draws (draw cells.now corners.now clearance points.old triangles.old) result
-        points.new triangles.new }
+) -> Result<Drawn, Refusal>
+    ensures { Draws (draw passed.entry.cells.now passed.entry.corners.now clearance points.old triangles.old)
+        (drawn_of result) points.new triangles.new }
 {
     let mut wets = [0u8; 4872];
-    let number = refusal(cells, corners, clearance, &mut wets);
-    if number != 0 {
-        return result(number, 0, 0);
-    }
-    draw_drawable(
-        cells, corners, clearance, laid, octants, &wets, points, triangles,
-    )
+    refusal(passed.cells, passed.corners, clearance, &mut wets)?;
+    Ok(draw_drawable(passed, clearance, &wets, points, triangles))
 }
 
-// The same where there are amendments: 14 and 15, then the drawing with the corner table as amended.
+// The same where there are amendments: 14 and 15, then the drawing with the corner table as amended. `volume` and `ways` have a function of this shape each, and
+// one of that of `draw_checked`: one for all would take a closure over the lent slices, whose clauses would have to be written out here; no plainer.
 fn draw_amended(
+    passed: Passed,
+    amendments: &[u8],
+    clearance: f32,
+    points: &mut [f32],
+    triangles: &mut [u32],
+) -> Result<Drawn, Refusal>
+    ensures { Draws (draw_amended passed.entry.cells.now passed.entry.corners.now amendments.now clearance
+        points.old triangles.old) (drawn_of result) points.new triangles.new }
+{
+    let mut table = [0u8; records::LIMIT];
+    let amended = passed.amended(amendments, &mut table)?;
+    draw_in_force(amended, clearance, points, triangles)
+}
+
+// Draws a survey, as amended, or says which check refuses it before anything is drawn.
+fn draw_checked(
     cells: &[u8],
     corners: &[u8],
     amendments: &[u8],
     clearance: f32,
-    laid: &[u64],
-    octants: &[u16],
     points: &mut [f32],
     triangles: &mut [u32],
-) -> Drawn
-    requires { Tables cells.now corners.now laid.now octants.now }
-    ensures { Draws (draw_amended cells.now corners.now amendments.now clearance
-        points.old triangles.old) result points.new triangles.new }
+) -> Result<Drawn, Refusal>
+    ensures { Draws (draw_amended cells.now corners.now amendments.now clearance points.old triangles.old)
+        (drawn_of result) points.new triangles.new }
 {
-    let mut table = [0u8; records::LIMIT];
-    let number = amendments::refusal(cells, corners, amendments, &mut table);
-    if number != 0 {
-        return result(number, 0, 0);
+    let mut laid = [0u64; 2049];
+    let mut octants = [0u16; 16392];
+    let passed = Passed::read(cells, corners, &mut laid, &mut octants)?;
+    if amendments.is_empty() {
+        return draw_in_force(passed, clearance, points, triangles);
     }
-    let n = corners.len();
-    draw_in_force(
-        cells,
-        &table[..n],
-        clearance,
-        laid,
-        octants,
-        points,
-        triangles,
-    )
+    draw_amended(passed, amendments, clearance, points, triangles)
 }
 
 // Draws the surface of a survey, as amended, at a clearance: document 01, "Outputs and refusals", and document 02, requests 3 and 6. For every input, the
@@ -207,18 +206,8 @@ pub fn draw(
     ensures closes { result.number ≡ 0 → ClosedIn cells.now (amended corners.now amendments.now) clearance result
         points.new triangles.new }
 {
-    let mut laid = [0u64; 2049];
-    let mut octants = [0u16; 16392];
-    let number = checks::read(cells, corners, &mut laid, &mut octants);
-    if number != 0 {
-        return result(number, 0, 0);
+    match draw_checked(cells, corners, amendments, clearance, points, triangles) {
+        Ok(drawn) => drawn,
+        Err(refusal) => refused(refusal),
     }
-    if amendments.len() == 0 {
-        return draw_in_force(
-            cells, corners, clearance, &laid, &octants, points, triangles,
-        );
-    }
-    draw_amended(
-        cells, corners, amendments, clearance, &laid, &octants, points, triangles,
-    )
 }

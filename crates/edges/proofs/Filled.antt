@@ -1,11 +1,12 @@
 -- Tables filled from the front, entry by entry; and the wetness of a corner record.
 use Prim.Native.Nat.{ℕ, ◌+◌, ◌<◌}
-use mathlib.Core.Path.{◌≡◌, sym, ap, ◌∙◌}
-use mathlib.Core.Bool.{true}
+use mathlib.Core.Path.{◌≡◌, refl, sym, ap, ◌∙◌}
+use mathlib.Core.Bool.{Bool, true, false}
 use mathlib.Core.List.{List}
 use native.Mathlib.Decide.{ℕ_discrete}
 use native.Mathlib.Omega.{arith}
 use lib.Ieee.{Float}
+use mir.Val.{bool_byte}
 use lib.ListN.{length, get_or, set}
 use lib.Seq.{get_or-set_same, get_or-set_other}
 use Rattle.base.specs.Lists.{bit}
@@ -39,3 +40,8 @@ module _ (t : List ℕ) (b : Bytes t) (up : rising (places_of t) ≡ true) (clea
   pub wets_done : (wets : List ℕ) → length wets ≡ 4872 → ((k : ℕ) → k < record_count t → get_or wets k 0 ≡ bit (wet clearance (corner_record t k))) →
       Wets t clearance wets
   wets_done wets size f = record { size = size; entry = λ k h. f k h ∙ ap bit (sym (wet-record k h)) }
+
+-- the byte of a truth value
+pub byte-bit : (b : Bool) → bool_byte b ≡ bit b
+byte-bit true = refl
+byte-bit false = refl

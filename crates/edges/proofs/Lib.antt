@@ -1,4 +1,5 @@
 pub mod Starts
+pub mod Lent
 pub mod Levels
 pub mod Points
 pub mod Find

@@ -1,3 +1,4 @@
 pub mod Tables
 pub mod Searching
 pub mod Noting
+pub mod Surveyed

@@ -3,13 +3,14 @@ ghost use Rattle.std.specs.Prelude.{◌≡◌, true, not, cond, ◌/◌, ◌≤�
 ghost use Rattle.base.specs.Grid.{axis_of};
 ghost use Rattle.rules.specs.Survey.{record_count, cells_of, corners_of};
 ghost use Rattle.rules.specs.Edges.{edge, is_edge, spot_on};
-ghost use Rattle.rules.specs.Outputs.{survey_refusal, accepted, survey_of};
+ghost use Rattle.rules.specs.Outputs.{survey_refusal};
 ghost use Rattle.places.specs.Places.{as_spot};
 ghost use Rattle.records.specs.Keys.{places_of};
 ghost use Rattle.edges.specs.Tables.{place_at, Wets, Levelled, UpperEnd, OddEdge, CarrierSlot};
 ghost use Rattle.edges.specs.Searching.{Corners};
+ghost use Rattle.edges.specs.Surveyed.{surveyed};
 
-use super::{keys, table};
+use super::{Edges, keys, table};
 use places::Point;
 
 // The record at the upper end of the edge of this level that starts at record k on an axis: from the table for the lowest level there, else by a search.
@@ -23,12 +24,13 @@ pub fn upper_end(
 ) -> usize
     requires corners_value { survey_refusal cells.now corners.now ≡ 0 }
     requires levelled { Levelled cells.now corners.now slots.now }
-    requires axis_bound { (axis < 3) × (k < record_count corners.now) × T (is_edge (cells_of cells.now) (axis_of axis) (place_at (places_of corners.now) k) level) }
+    requires axis_bound { (axis < 3) × (k < record_count corners.now)
+        × T (is_edge (cells_of cells.now) (axis_of axis) (place_at (places_of corners.now) k) level) }
     ensures { UpperEnd corners.now (axis_of axis) k level result }
 {
     let slot = 4872 * (axis as usize) + k;
     if table::lowest(slots, slot) == level {
-        return table::far(slots, slot) as usize;
+        return usize::from(table::far(slots, slot));
     }
     reader::find(
         corners,
@@ -47,32 +49,30 @@ pub fn odd_half(wets: &[u8], k: usize, middle: usize) -> usize
     middle
 }
 
-// The slot of the edge that carries the point of an odd edge: down to its odd half while it is divided.
-pub fn carrier_slot(
-    cells: &[u8],
-    corners: &[u8],
-    clearance: f32,
-    wets: &[u8],
-    slots: &[u16],
-    axis: u32,
-    start: usize,
-    top: u8,
-) -> usize
-    requires clearance_value { accepted cells.now corners.now clearance ≡ true }
-    requires wets { Wets corners.now clearance wets.now }
-    requires levelled { Levelled cells.now corners.now slots.now }
-    requires axis_bound { (axis < 3) × OddEdge cells.now corners.now clearance (axis_of axis) start top }
-    ensures { CarrierSlot (survey_of cells.now corners.now clearance) (axis_of axis)
-        (place_at (places_of corners.now) start) top result }
-{
-    let mut k = start;
-    let mut level = top;
-    while table::lowest(slots, 4872 * (axis as usize) + k) < level {
-        level -= 1;
-        let middle = upper_end(cells, corners, slots, axis, k, level);
-        k = odd_half(wets, k, middle);
+impl Edges<'_, '_> {
+    // The slot of the edge that carries the point of an odd edge: down to its odd half while it is divided.
+    pub fn carrier_slot(&self, wets: &[u8], axis: u32, start: usize, top: u8) -> usize
+        requires wets { Wets self.now.survey.corners.now self.now.survey.clearance wets.now }
+        requires axis_bound { (axis < 3) × OddEdge self.now.survey.cells.now self.now.survey.corners.now self.now.survey.clearance (axis_of axis) start top }
+        ensures { CarrierSlot (surveyed self.now.survey) (axis_of axis)
+            (place_at (places_of self.now.survey.corners.now) start) top result }
+    {
+        let mut k = start;
+        let mut level = top;
+        while table::lowest(self.slots, 4872 * (axis as usize) + k) < level {
+            level -= 1;
+            let middle = upper_end(
+                self.survey.cells,
+                self.survey.corners,
+                self.slots,
+                axis,
+                k,
+                level,
+            );
+            k = odd_half(wets, k, middle);
+        }
+        4872 * (axis as usize) + k
     }
-    4872 * (axis as usize) + k
 }
 
 // The place of the point on an odd edge between two corner records: reckoned from its dry end.

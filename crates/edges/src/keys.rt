@@ -1,28 +1,7 @@
 // Levels, lengths and keys as numbers.
-ghost use Rattle.std.specs.Prelude.{◌≡◌, cond, ◌+◌, ◌-◌, ◌*◌, ◌^◌, ◌≤◌, ◌<◌, min, max, ltb};
-ghost use Rattle.base.specs.Lists.{bit};
+ghost use Rattle.std.specs.Prelude.{◌≡◌, cond, ◌+◌, ◌-◌, ◌*◌, ◌^◌, ◌≤◌, ltb};
 ghost use Rattle.base.specs.Grid.{axis_of};
 ghost use Rattle.edges.specs.Searching.{key_unit};
-
-// The lower of two levels.
-pub fn lower(a: u8, b: u8) -> u8
-    ensures { result ≡ min a b }
-{
-    if a < b {
-        return a;
-    }
-    b
-}
-
-// The higher of two levels.
-pub fn higher(a: u8, b: u8) -> u8
-    ensures { result ≡ max a b }
-{
-    if a < b {
-        return b;
-    }
-    a
-}
 
 // The upper end of the shorter of two edges from one place: of one with this level and end, and of one whose level and end are known. Of two of the
 // same level the known end.
@@ -54,14 +33,4 @@ pub fn step(key: u64, axis: u32, level: u8) -> u64
     ensures { (result ≡ key + 2 ^ level * key_unit (axis_of axis)) × (result ≤ key + 4398046511104) }
 {
     key + cells::size_of(level) * unit(axis)
-}
-
-// 1 for true, 0 for false.
-pub fn mark(wet: bool) -> u8
-    ensures { result ≡ bit wet }
-{
-    if wet {
-        return 1;
-    }
-    0
 }

@@ -18,7 +18,7 @@ fn note_edge(slots: &mut [u16], slot: usize, level: u8, end: u16)
     let high = table::highest(slots, slot);
     let known = table::far(slots, slot);
     slots[3 * slot + 1] = keys::end_of_lower(level, end, low, known);
-    slots[3 * slot] = (keys::lower(level, low) as u16) + 16 * (keys::higher(level, high) as u16);
+    slots[3 * slot] = u16::from(level.min(low)) + 16 * u16::from(level.max(high));
 }
 
 // Notes the edges of the cell of record `n`.
@@ -36,10 +36,8 @@ pub fn note_cell(
     requires levels { Levels corners.now (edges_of (drop (n + 1) (cells_of cells.now))) slots.old }
     ensures { Levels corners.now (edges_of (drop n (cells_of cells.now))) slots.new }
 {
-    let mut e: usize = 12;
-    while e > 0 {
-        e -= 1;
-        let start = octants[8 * n + twelve::start_of(e)] as usize;
+    for e in (0usize..12).rev() {
+        let start = usize::from(octants[8 * n + twelve::start_of(e)]);
         let end = octants[8 * n + twelve::end_of(e)];
         note_edge(slots, 4872 * (e / 4) + start, level, end);
     }

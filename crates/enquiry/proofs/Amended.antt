@@ -30,16 +30,17 @@ module _ (tc tk ta : List ℕ) (clearance : Float) (axis : ℕ) (p : Place) (siz
   unfolding enquiry_amended
   answered-is pass = sym (called tc tk ta refused (λ t. enquiry tc t clearance axis p size) pass)
 
-  pub in_force : first_of (amendment_checks tc tk ta) ≡ 0 → (t : List ℕ) → t ≡ amended tk ta
-      → enquiry tc t clearance axis p size ≡ enquiry_amended tc tk ta clearance axis p size
-  in_force pass t e = ap (λ (u : List ℕ). enquiry tc u clearance axis p size) e ∙ answered-is pass
+  pub in_force : 0 ≡ first_of (amendment_checks tc tk ta) → (u t : List ℕ) → (u ≡ tc) × (t ≡ amended tk ta)
+      → enquiry u t clearance axis p size ≡ enquiry_amended tc tk ta clearance axis p size
+  in_force pass u t (d, e) = (λ i. enquiry (d i) (e i) clearance axis p size) ∙ answered-is (sym pass)
 
   -- without amendments: with the corner table as it was lent
-  pub without : ta ≡ [] → first_of (table_checks tc tk) ≡ 0 → enquiry tc tk clearance axis p size ≡ enquiry_amended tc tk ta clearance axis p size
-  without none pass =
+  pub without : ta ≡ [] → 0 ≡ first_of (table_checks tc tk) → (u t : List ℕ) → (u ≡ tc) × (t ≡ tk)
+      → enquiry u t clearance axis p size ≡ enquiry_amended tc tk ta clearance axis p size
+  without none pass u t (d, e) =
       let plain : enquiry_amended tc tk [] clearance axis p size ≡ enquiry tc tk clearance axis p size =
-      unfold enquiry_amended in none-amended tc tk refused (λ t. enquiry tc t clearance axis p size) pass in
-      sym (ap (λ (u : List ℕ). enquiry_amended tc tk u clearance axis p size) none ∙ plain)
+      unfold enquiry_amended in none-amended tc tk refused (λ t. enquiry tc t clearance axis p size) (sym pass) in
+      (λ i. enquiry (d i) (e i) clearance axis p size) ∙ sym (ap (λ (u : List ℕ). enquiry_amended tc tk u clearance axis p size) none ∙ plain)
 
   amended-stays : StaysOn (survey_of tc (amended tk ta) clearance) (asked axis p size) (enquiry_amended tc tk ta clearance axis p size)
   amended-stays = go (eqb (first_of (amendment_checks tc tk ta)) 0) refl
@@ -55,6 +56,8 @@ module _ (tc tk ta : List ℕ) (clearance : Float) (axis : ℕ) (p : Place) (siz
           (record { on_asked = tt; on_carrier = tt })
 
   -- both promises of the enquiry, of an answer that equals the rules'
-  pub both : (r : Enquired) → r ≡ enquiry_amended tc tk ta clearance axis p size →
-      (r ≡ enquiry_amended tc tk ta clearance axis p size) × StaysOn (survey_of tc (amended tk ta) clearance) (asked axis p size) r
-  both r h = (h, subst (StaysOn (survey_of tc (amended tk ta) clearance) (asked axis p size)) (sym h) amended-stays)
+  pub both : (r : Enquired) → r ≡ enquiry_amended tc tk ta clearance axis p size → record {
+    exact : r ≡ enquiry_amended tc tk ta clearance axis p size;
+    on_edge : StaysOn (survey_of tc (amended tk ta) clearance) (asked axis p size) r;
+  }
+  both r h = record { exact = h; on_edge = subst (StaysOn (survey_of tc (amended tk ta) clearance) (asked axis p size)) (sym h) amended-stays }

@@ -1,21 +1,26 @@
 -- The edge enquiry: the level of a length, the answer from the tables, and the order of the refusals.
-use Prim.Native.Nat.{ℕ, suc, ◌+◌, ◌*◌, ◌/◌, ◌%◌, ◌^◌, ◌≤◌, ◌<◌}
+use Rattle.std.specs.Prelude.{Option, Some, None, MatchOption, unwrap_or, Result, Ok, Err, IsErrAnd}
+use Prim.Native.Nat.{ℕ, zero, suc, ◌+◌, ◌*◌, ◌/◌, ◌%◌, ◌^◌, ◌≤◌, ◌<◌}
 use mathlib.Core.Path.{◌≡◌, refl, sym, ap, ◌∙◌}
 use mathlib.Core.Logic.{◌⊎◌, inl, inr}
 use mathlib.Core.Bool.{Bool, true, false, not, ◌&&◌, cond}
 use mathlib.Core.List.{List, [], ◌∷◌, ◌++◌}
+use native.Mathlib.Decide.{ℕ_discrete}
 use native.Mathlib.Omega.{arith}
 use lib.Dec.{T, eqb, ltb}
 use lib.Ieee.{Float}
 use lib.ListN.{get_or}
 use borrow.Author.Tests.{eq-eqb, ne_eqb, lt-ltb, le-ltb}
 use Rattle.base.specs.Lists.{first, count, bit}
-use Rattle.base.specs.Grid.{Place, Axis, along, move, axis_of}
+use Rattle.base.specs.Grid.{Place, Axis, X, Y, Z, along, move, axis_of}
 use Rattle.base.proofs.Tests.{→true, true→, either, eq→eqb, not_both}
 use Rattle.rules.specs.Survey.{cells_of, corners_of, wet_at, Survey}
 use Rattle.rules.specs.Edges.{edge, is_edge, odd, number_of, carrier, Spot, spot_on}
 use Rattle.rules.specs.WhichEnd.{wet_end}
-use Rattle.rules.specs.Outputs.{first_of, checks, accepted, survey_of, level_of, Enquired, refused, even, crossing, enquiry}
+use Rattle.rules.specs.Outputs.{first_of, checks, accepted, survey_of, level_of, Enquired, refused, even, crossing, enquiry, answered}
+use Rattle.rules.specs.Refusals.{refusal_number}
+use Rattle.rules.specs.declared.Edge.{Edge}
+use Rattle.rules.specs.declared.refusal.Refusal.{Refusal}
 use Rattle.rules.specs.declared.End.{End}
 use Rattle.rules.specs.declared.End.TheVariants.{Lower, Upper}
 use Rattle.records.specs.Keys.{key_of, places_of, Short}
@@ -24,22 +29,44 @@ use Rattle.octree.proofs.Accepted.{lawful, numbered, first_append}
 use Rattle.octree.proofs.Edges.{edge→}
 use Rattle.octree.proofs.Aligned.{corner-place}
 use Rattle.edges.specs.Tables.{place_at, UpperEnd, Wets}
+use Rattle.edges.specs.Searching.{Corners}
+use Rattle.edges.specs.declared.survey.Survey.{Survey as Lent}
+use Rattle.edges.proofs.Readings.{corners}
 use Rattle.enquiry.specs.Enquiry.{edge_answer}
 
 -- ---- the level of a length
 
 -- the first level, of n from l on, whose size this is; or 11
-abbrev pub level_from : ℕ → ℕ → ℕ → ℕ
+abbrev level_from : ℕ → ℕ → ℕ → ℕ
 level_from size l n = first (λ i. eqb (2 ^ i) size) 11 (count l n)
 
-pub level_start : (size : ℕ) → level_of size ≡ level_from size 0 11
-level_start size = refl
-
-pub level_hit : (size l n : ℕ) → 2 ^ l ≡ size → level_from size l (suc n) ≡ l
+level_hit : (size l n : ℕ) → 2 ^ l ≡ size → level_from size l (suc n) ≡ l
 level_hit size l n e = rw (eq-eqb (2 ^ l) size e)
 
-pub level_miss : (size l n : ℕ) → (2 ^ l ≡ size → ⊥) → level_from size l (suc n) ≡ level_from size (suc l) n
+level_miss : (size l n : ℕ) → (2 ^ l ≡ size → ⊥) → level_from size l (suc n) ≡ level_from size (suc l) n
 level_miss size l n e = rw (ne_eqb (2 ^ l) size e)
+
+-- none of them: 11
+level_none : (size l n : ℕ) → ((k : ℕ) → l ≤ k → k < l + n → 2 ^ k ≡ size → ⊥) → level_from size l n ≡ 11
+level_none size l zero none = refl
+level_none size l (suc n) none =
+    level_miss size l n (none l (omega arith) (omega arith)) ∙ level_none size (suc l) n (λ k h g. none k (omega arith) (omega arith))
+
+-- one of them, and none before it
+level_first : (size l n i : ℕ) → l ≤ i → i < l + n → 2 ^ i ≡ size → ((k : ℕ) → l ≤ k → k < i → 2 ^ k ≡ size → ⊥) → level_from size l n ≡ i
+level_first size l zero i h g e none = absurd (omega arith)
+level_first size l (suc n) i h g e none =
+    go (ℕ_discrete l i) (λ q. level_first size (suc l) n i q (omega arith) e (λ k a b. none k (omega arith) b))
+  where
+    go : Dec (l ≡ i) → (suc l ≤ i → level_from size (suc l) n ≡ i) → level_from size l (suc n) ≡ i
+    go (yes q) rest = level_hit size l n (ap (λ k. 2 ^ k) q ∙ e) ∙ q
+    go (no q) rest = level_miss size l n (none l (omega arith) (omega arith)) ∙ rest (omega arith)
+
+-- the first of the eleven levels whose size this is, if there is one
+pub level_sought : (size : ℕ) (r : Option ℕ) → MatchOption r ((k : ℕ) → 0 ≤ k → k < 11 → 2 ^ k ≡ size → ⊥)
+    (λ i. (0 ≤ i) × (i < 11) × (2 ^ i ≡ size) × ((k : ℕ) → 0 ≤ k → k < i → 2 ^ k ≡ size → ⊥)) → unwrap_or r 11 ≡ level_of size
+level_sought size None none = sym (level_none size 0 11 (λ k h g. none k h g))
+level_sought size (Some i) (h, g, e, none) = sym (level_first size 0 11 i h g e none)
 
 pub key-is : (x y z : ℕ) → x + 65536 * y + 4294967296 * z ≡ key_of (record { x = x; y = y; z = z })
 unfolding key_of
@@ -57,6 +84,15 @@ unfolding key_of
 placed-key key = omega arith
 
 -- ---- the answer
+
+-- a call that passes on the refusal of another call answers with it
+pub answered_on : (r : Result Edge Refusal) (e : Refusal) → IsErrAnd r (λ y. y ≡ e) → answered r ≡ refused (refusal_number e)
+answered_on (Ok x) e is = absurd is
+answered_on (Err y) e is = ap (λ z. refused (refusal_number z)) is
+
+-- what a look-up asks of the corner table of a survey
+pub known : (s : Lent) → Corners s.corners.now
+known s = corners s.cells.now s.corners.now s.clearance s.accepted
 
 module _ (tc tk : List ℕ) (clearance : Float) (a : Axis) (p : Place) (l : ℕ) where
   abbrev s : Survey
@@ -109,7 +145,7 @@ module _ (tc tk : List ℕ) (clearance : Float) (ok : accepted tc tk clearance �
   law = lawful tc tk clearance (→true ok)
 
   -- no edge starts outside the box
-  pub far_off : (a b : Axis) (p : Place) (l : ℕ) → 1024 < along b p → is_edge (cells_of tc) a p l ≡ false
+  far_off : (a b : Axis) (p : Place) (l : ℕ) → 1024 < along b p → is_edge (cells_of tc) a p l ≡ false
   unfolding survey_of
   far_off a b p l h = go (either (is_edge (cells_of tc) a p l))
     where
@@ -162,14 +198,14 @@ module _ (tc tk : List ℕ) (clearance : Float) (axis : ℕ) (p : Place) (size :
       ap (λ k. refused k) (e ∙ sym m) ∙
       sym (enquiry-is ∙ ap (λ b. cond b found (refused (first_of (checks tc tk clearance ++ (11, last) ∷ [])))) (ap (λ k. eqb k 0) m ∙ z))
 
-  module _ (n : ℕ) (e : n ≡ first_of (checks tc tk clearance)) (h : n ≡ 0) where
+  module _ (pass : 0 ≡ first_of (checks tc tk clearance)) where
     pub is-accepted : accepted tc tk clearance ≡ true
     unfolding accepted
-    is-accepted = eq-eqb (first_of (checks tc tk clearance)) 0 (sym e ∙ h)
+    is-accepted = eq-eqb (first_of (checks tc tk clearance)) 0 (sym pass)
 
     number_last : first_of (checks tc tk clearance ++ (11, last) ∷ []) ≡ cond last 11 0
     number_last =
-        number_of_lem ∙ ap (λ b. cond b (cond last 11 0) (first_of (checks tc tk clearance))) (eq-eqb (first_of (checks tc tk clearance)) 0 (sym e ∙ h))
+        number_of_lem ∙ ap (λ b. cond b (cond last 11 0) (first_of (checks tc tk clearance))) (eq-eqb (first_of (checks tc tk clearance)) 0 (sym pass))
 
     last_is : enquiry tc tk clearance axis p size ≡ cond (eqb (cond last 11 0) 0) found (refused (cond last 11 0))
     last_is = enquiry-is ∙ ap (λ k. cond (eqb k 0) found (refused k)) number_last
@@ -178,12 +214,23 @@ module _ (tc tk : List ℕ) (clearance : Float) (axis : ℕ) (p : Place) (size :
     last_refused g = sym (last_is ∙ ap (λ b. cond (eqb (cond b 11 0) 0) found (refused (cond b 11 0))) g)
 
     -- an axis above 2
-    pub axis-refused : 3 ≤ axis → refused 11 ≡ enquiry tc tk clearance axis p size
+    axis-refused : 3 ≤ axis → refused 11 ≡ enquiry tc tk clearance axis p size
     axis-refused g = last_refused (ap (λ b. not (b && is_edge (cells_of tc) (axis_of axis) p (level_of size))) (le-ltb axis 3 g))
 
     -- no cell has the edge
-    pub edge-refused : axis < 3 → is_edge (cells_of tc) (axis_of axis) p (level_of size) ≡ false → refused 11 ≡ enquiry tc tk clearance axis p size
+    edge-refused : axis < 3 → is_edge (cells_of tc) (axis_of axis) p (level_of size) ≡ false → refused 11 ≡ enquiry tc tk clearance axis p size
     edge-refused g f = last_refused (λ i. not (lt-ltb axis 3 g i && f i))
+
+    outside : (b : Axis) → axis ≤ 2 → 1024 < along b p → refused 11 ≡ enquiry tc tk clearance axis p size
+    outside b g o = edge-refused (omega arith) (far_off tc tk clearance is-accepted (axis_of axis) b p (level_of size) o)
+
+    -- there is no such axis, or the edge would start outside the box
+    pub nowhere-refused : (2 < axis) ⊎ ((axis ≤ 2) × (1024 < p.x)) ⊎ ((axis ≤ 2) × (p.x ≤ 1024) × (1024 < p.y))
+        ⊎ ((axis ≤ 2) × (p.x ≤ 1024) × (p.y ≤ 1024) × (1024 < p.z)) → refused 11 ≡ enquiry tc tk clearance axis p size
+    nowhere-refused (inl g) = axis-refused g
+    nowhere-refused (inr (inl (g, o))) = outside X g o
+    nowhere-refused (inr (inr (inl (g, x, o)))) = outside Y g o
+    nowhere-refused (inr (inr (inr (g, x, y, o)))) = outside Z g o
 
     pub enquiry-answer : axis < 3 → edge_answer tc tk clearance (axis_of axis) p (level_of size) ≡ enquiry tc tk clearance axis p size
     enquiry-answer g =

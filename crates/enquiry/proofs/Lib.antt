@@ -1,4 +1,5 @@
 pub mod Enquiring
+pub mod Counting
 pub mod Staying
 pub mod StepByAnswers
 pub mod Amended

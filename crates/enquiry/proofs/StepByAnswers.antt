@@ -138,7 +138,7 @@ module _ (tc tk : List ℕ) (clearance : Float) (ok : T (accepted tc tk clearanc
       let l = e.level in
       let passed = eqb→eq (first_of (checks tc tk clearance)) 0 ok in
       let named = level-named l (edge-level (cells_of tc) law.octree a e.low l t) in
-      sym (enquiry-answer tc tk clearance (axis_number a) e.low (2 ^ l) (first_of (checks tc tk clearance)) refl passed (axis-few a))
+      sym (enquiry-answer tc tk clearance (axis_number a) e.low (2 ^ l) (sym passed) (axis-few a))
       ∙ (λ i. edge_answer tc tk clearance (axis-named a i) e.low (named i))
       ∙ sym (found_here tc tk clearance a e.low l t)
 

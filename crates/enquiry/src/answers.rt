@@ -1,111 +1,105 @@
 // The enquiry of an accepted survey, from the tables.
-ghost use Rattle.std.specs.Prelude.{◌≡◌, true, cond, ◌/◌, ◌≤◌, ◌<◌, T, eqb, length};
+ghost use Rattle.std.specs.Prelude.{◌≡◌, count_by, cond, ◌+◌, ◌*◌, ◌/◌, ◌≤◌, ◌<◌, T, eqb, length};
+ghost use Rattle.std.specs.List.{range_with_len};
 ghost use Rattle.base.specs.Grid.{Place, axis_of};
-ghost use Rattle.rules.specs.Outputs.{accepted, survey_of, answered};
+ghost use Rattle.rules.specs.Survey.{record_count};
+ghost use Rattle.rules.specs.Outputs.{answered};
 ghost use Rattle.records.specs.Keys.{key_of, Short};
 ghost use Rattle.cells.specs.Laid.{Laid};
 ghost use Rattle.octants.specs.Octants.{Octants};
-ghost use Rattle.edges.specs.Tables.{crossed_slot, slots_below, Levelled, Wets};
+ghost use Rattle.edges.specs.Tables.{crossed_slot, slots_below, Wets};
+ghost use Rattle.edges.specs.Surveyed.{surveyed};
 ghost use Rattle.enquiry.specs.Enquiry.{edge_answer};
 ghost use Rattle.rules.specs.declared.End.TheVariants.{Lower, Upper};
 
-use rules::{Answer, Edge, End};
+use edges::{Edges, Survey};
+use rules::{Edge, End, Refusal};
 
 // The wet end of an odd edge, by the mark of its upper end.
 fn wet_end(mark: u8) -> End
     ensures { result ≡ cond (eqb mark 0) Lower Upper }
 {
-    if mark == 0 {
-        return End::Lower;
-    }
-    End::Upper
+    if mark == 0 { End::Lower } else { End::Upper }
 }
 
-// How many crossed slots come before a crossed one. Slots for which there are no corner records are passed over.
-fn count_crossed(
-    cells: &[u8],
-    corners: &[u8],
-    clearance: f32,
-    wets: &[u8],
-    slots: &[u16],
-    slot: usize,
-) -> usize
-    requires clearance_value { accepted cells.now corners.now clearance ≡ true }
-    requires wets { Wets corners.now clearance wets.now }
-    requires levelled { Levelled cells.now corners.now slots.now }
-    requires slot_bound { (slot < 14616) × T (crossed_slot (survey_of cells.now corners.now clearance) slot) }
-    ensures { result ≡ length (slots_below (survey_of cells.now corners.now clearance) slot) }
+// How many of the slots of an axis are crossed, of those of the first `count` corner records.
+fn count_on_axis(edges: &Edges<'_, '_>, wets: &[u8], axis: usize, count: usize) -> usize
+    requires wets { Wets edges.now.survey.corners.now edges.now.survey.clearance wets.now }
+    requires axis_bound { (axis < 3) × (count ≤ 4872) }
+    ensures { result ≡ count_by (λ k. crossed_slot (surveyed edges.now.survey) (4872 * axis + k)) (range_with_len 0 count) }
 {
-    let count = corners.len() / records::SIZE;
+    (0..count)
+        .filter(|k| edges.is_crossed(wets, 4872 * axis + *k))
+        .count()
+}
+
+// How many crossed slots come before a crossed one: on the axes before its own, then on its own.
+fn count_crossed(edges: &Edges<'_, '_>, wets: &[u8], slot: usize) -> usize
+    requires wets { Wets edges.now.survey.corners.now edges.now.survey.clearance wets.now }
+    requires slot_bound { (slot < 14616) × T (crossed_slot (surveyed edges.now.survey) slot) }
+    ensures { result ≡ length (slots_below (surveyed edges.now.survey) slot) }
+{
+    let count = edges.survey.corners.len() / records::SIZE;
     let mut n: usize = 0;
-    let mut i: usize = 0;
-    while i < slot {
-        if i % 4872 >= count {
-            i = i / 4872 * 4872 + 4872;
-            continue;
-        }
-        let crossed = edges::is_crossed(cells, corners, clearance, wets, slots, i);
-        n += edges::keys::mark(crossed) as usize;
-        i += 1;
+    for axis in 0..slot / 4872 {
+        n += count_on_axis(edges, wets, axis, count);
     }
-    n
+    n + count_on_axis(edges, wets, slot / 4872, slot % 4872)
 }
 
 // The answer of the enquiry from the tables, by the key of the edge's lower end.
 fn edge_answer(
-    cells: &[u8],
-    corners: &[u8],
-    clearance: f32,
+    edges: &Edges<'_, '_>,
     wets: &[u8],
-    slots: &[u16],
     axis: u32,
     key: u64,
     level: u8,
-) -> Answer
-    requires clearance_value { accepted cells.now corners.now clearance ≡ true }
-    requires wets { Wets corners.now clearance wets.now }
-    requires levelled { Levelled cells.now corners.now slots.now }
+) -> Result<Edge, Refusal>
+    requires wets { Wets edges.now.survey.corners.now edges.now.survey.clearance wets.now }
     requires axis_bound { axis < 3 }
     ensures { (p : Place) → Short p → key ≡ key_of p →
-        answered result ≡ edge_answer cells.now corners.now clearance (axis_of axis) p level }
+        answered result ≡ edge_answer edges.now.survey.cells.now edges.now.survey.corners.now edges.now.survey.clearance
+        (axis_of axis) p level }
 {
-    let k = edges::edge_record(cells, corners, clearance, slots, axis, key, level);
-    if k >= corners.len() / records::SIZE {
-        return Answer::Refused(11);
+    let Survey { cells, corners, .. } = edges.survey;
+    let start = edges.edge_record(axis, key, level);
+    if start >= corners.len() / records::SIZE {
+        return Err(Refusal::NoEdge);
     }
-    let end = edges::ends::upper_end(cells, corners, slots, axis, k, level);
-    let lower = wets[k];
+    let end = edges::ends::upper_end(cells, corners, edges.slots, axis, start, level);
+    let lower = wets[start];
     let upper = wets[end];
     if lower == upper {
-        return Answer::Found(Edge::Even);
+        return Ok(Edge::Even);
     }
-    let slot = edges::ends::carrier_slot(cells, corners, clearance, wets, slots, axis, k, level);
-    let n = count_crossed(cells, corners, clearance, wets, slots, slot) as u32;
-    let p = edges::slot_point(cells, corners, clearance, slots, slot);
-    Answer::Found(Edge::Crossing(n, p.x, p.y, p.z, wet_end(upper)))
+    let slot = edges.carrier_slot(wets, axis, start, level);
+    let place = edges.slot_point(slot);
+    let n = count_crossed(edges, wets, slot) as u32;
+    Ok(Edge::Crossing(n, place.x, place.y, place.z, wet_end(upper)))
 }
 
 // The enquiry of an accepted survey: the tables of its edges, and the answer from them.
 pub fn enquire_accepted(
-    cells: &[u8],
-    corners: &[u8],
-    clearance: f32,
+    survey: Survey<'_>,
     laid: &[u64],
     octants: &[u16],
     axis: u32,
     key: u64,
     level: u8,
-) -> Answer
-    requires clearance_value { accepted cells.now corners.now clearance ≡ true }
-    requires laid { Laid cells.now laid.now × (length cells.now / 4 ≤ length laid.now) }
-    requires octants { Octants cells.now corners.now octants.now }
+) -> Result<Edge, Refusal>
+    requires laid { Laid survey.cells.now laid.now × (length survey.cells.now / 4 ≤ length laid.now) }
+    requires octants { Octants survey.cells.now survey.corners.now octants.now }
     requires axis_bound { axis < 3 }
     ensures { (p : Place) → Short p → key ≡ key_of p →
-        answered result ≡ edge_answer cells.now corners.now clearance (axis_of axis) p level }
+        answered result ≡ edge_answer survey.entry.cells.now survey.entry.corners.now survey.entry.clearance (axis_of axis) p level }
 {
     let mut slots = [edges::table::EMPTY; 43848];
     let mut wets = [0u8; 4872];
-    edges::fill_levels(cells, corners, octants, laid, &mut slots);
-    edges::fill_wets(corners, clearance, &mut wets);
-    edge_answer(cells, corners, clearance, &wets, &slots, axis, key, level)
+    edges::fill_levels(survey.cells, survey.corners, octants, laid, &mut slots);
+    edges::fill_wets(survey.corners, survey.clearance, &mut wets);
+    let edges = Edges {
+        survey,
+        slots: &slots,
+    };
+    edge_answer(&edges, &wets, axis, key, level)
 }

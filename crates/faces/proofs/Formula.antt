@@ -2,11 +2,10 @@
 -- Computed tests over the sixteen patterns.
 use Prim.Native.Nat.{ℕ, ◌+◌, ◌*◌, ◌-◌, ◌/◌, ◌%◌, ◌^◌, ◌<◌}
 use mathlib.Core.Path.{◌≡◌, refl}
-use mathlib.Core.Bool.{cond}
-use native.Mathlib.Omega.{arith}
-use lib.Dec.{eqb}
-use lib.Bits.{bit_and, and_le_r}
-use lib.Count.{count_trailing_zeros, trailing_le}
+use mathlib.Core.Bool.{not, false, cond}
+use lib.Dec.{eqb, ltb}
+use lib.Bits.{bit_and}
+use lib.Count.{count_trailing_zeros}
 use Rattle.base.proofs.Alike.{alike}
 use Rattle.faces.specs.Patterns.{step_from, first_entry}
 use Rattle.faces.proofs.Table.{alike_rows}
@@ -27,21 +26,18 @@ pub by-formula : (p i : ℕ) → p < 16 → i < 4 → formula p i ≡ step_from 
 unfolding count_trailing_zeros step_from
 by-formula = alike_rows formula step_from refl
 
--- the lowest digit at which a corner is dry and the next one wet, or 4
-abbrev lowest : ℕ → ℕ
-lowest p = count_trailing_zeros 64 (16 + bit_and (17 * p / 2) (15 - p))
+-- digit i is 1 where corner i is dry and the next one wet
+abbrev pub entered : ℕ → ℕ
+entered p = bit_and (17 * p / 2) (15 - p)
+
+-- the lowest such digit, or 4
+abbrev pub lowest : ℕ → ℕ
+lowest p = cond (eqb (entered p) 0) 4 (count_trailing_zeros 64 (entered p))
 
 pub by-lowest : (p : ℕ) → p < 16 → lowest p ≡ first_entry p
 unfolding count_trailing_zeros step_from first_entry
 by-lowest = alike 0 16 lowest first_entry refl
 
--- ---- what the code adds up fits
-
-pub count_fits : (n : ℕ) → count_trailing_zeros 64 n < 2 ^ 64
-count_fits n = omega (arith, trailing_le 64 n)
-
-pub edge-fits : (i n : ℕ) → i < 4 → i + count_trailing_zeros 64 n < 2 ^ 64
-edge-fits i n l = omega (arith, l, trailing_le 64 n)
-
-pub lowest-fits : (n m : ℕ) → 16 + bit_and n (15 - m) < 2 ^ 64
-lowest-fits n m = omega (arith, and_le_r n (15 - m))
+pub entry-few : (p : ℕ) → p < 16 → ltb (first_entry p) 4 ≡ not (eqb (entered p) 0)
+unfolding step_from first_entry
+entry-few = alike false 16 (λ p. ltb (first_entry p) 4) (λ p. not (eqb (entered p) 0)) refl

@@ -67,9 +67,9 @@ step-odd a b c d i h l =
 
 -- ---- the edges by which steps enter
 
--- none where all corners are wet or all are dry; else the first, and where opposite corners are wet the edge two further on
+-- none, where there is no first one; else that one, and where opposite corners are wet the edge two further on
 abbrev pub entering : ℕ → List ℕ
-entering p = cond (eqb (p % 15) 0) [] (first_entry p ∷ cond (eqb (p % 5) 0) ((first_entry p + 2) ∷ []) [])
+entering p = cond (eqb (first_entry p) 4) [] (first_entry p ∷ cond (eqb (p % 5) 0) ((first_entry p + 2) ∷ []) [])
 
 -- the steps that enter by some edges
 abbrev pub steps_by : ℕ → List ℕ → List Step
@@ -86,14 +86,14 @@ module _ (p : ℕ) (h : p < 16) where
   entering_few j i =
       ltb→lt j 4 (all→in (λ j. ltb j 4) (entering p) (→true (alike true 16 (λ p. all (λ j. ltb j 4) (entering p)) (λ p. true) refl p h)) j i)
 
-pub none_entering : (p : ℕ) → p % 15 ≡ 0 → [] ≡ entering p
-none_entering p z = ap (λ b. cond b [] (first_entry p ∷ cond (eqb (p % 5) 0) ((first_entry p + 2) ∷ []) [])) (sym (eq-eqb (p % 15) 0 z))
+pub none_entering : (p : ℕ) → first_entry p ≡ 4 → [] ≡ entering p
+none_entering p z = ap (λ b. cond b [] (first_entry p ∷ cond (eqb (p % 5) 0) ((first_entry p + 2) ∷ []) [])) (sym (eq-eqb (first_entry p) 4 z))
 
-module _ (p j : ℕ) (e : j ≡ first_entry p) (s : p % 15 ≡ 0 → ⊥) where
+module _ (p j : ℕ) (e : j ≡ first_entry p) (few : j < 4) where
   some_entering : j ∷ cond (eqb (p % 5) 0) ((j + 2) ∷ []) [] ≡ entering p
   some_entering =
       ap (λ j. j ∷ cond (eqb (p % 5) 0) ((j + 2) ∷ []) []) e
-      ∙ ap (λ b. cond b [] (first_entry p ∷ cond (eqb (p % 5) 0) ((first_entry p + 2) ∷ []) [])) (sym (ne_eqb (p % 15) 0 s))
+      ∙ ap (λ b. cond b [] (first_entry p ∷ cond (eqb (p % 5) 0) ((first_entry p + 2) ∷ []) [])) (sym (ne_eqb (first_entry p) 4 (λ z. omega arith)))
 
   pub one_entering : (p % 5 ≡ 0 → ⊥) → j ∷ [] ≡ entering p
   one_entering o = ap (λ b. j ∷ cond b ((j + 2) ∷ []) []) (sym (ne_eqb (p % 5) 0 o)) ∙ some_entering

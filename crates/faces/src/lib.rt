@@ -2,7 +2,7 @@
 // Uses digits, records and trace, and the tables that across and crossings describe.
 #![tactic(auto)]
 
-ghost use Rattle.std.specs.Prelude.{◌≡◌, ◌+◌, ◌*◌, ◌/◌, ◌≤◌, ◌<◌, length, get_or};
+ghost use Rattle.std.specs.Prelude.{◌≡◌, ◌+◌, ◌*◌, ◌/◌, ◌≤◌, ◌<◌, length, get_or, MatchOption};
 ghost use Rattle.base.specs.Lists.{bit};
 ghost use Rattle.trace.specs.Trace.{recorded};
 ghost use Rattle.faces.specs.Patterns.{row_digit, wet_digit, step_from, first_entry};
@@ -16,7 +16,7 @@ ghost use Rattle.faces.specs.Faces.{leaf_table_steps, Fits, Roomy, Reaching};
 // The edge to which the step that enters by edge `edge` goes in a pattern, or 4 where none enters. Wet corners lie to the right of a step. Seen from outside,
 // a step that enters there has corner `edge` to its left and corner `edge + 1` to its right: so the first is dry and the second wet. It goes round the wet
 // corners that follow and leaves by the edge before the first dry one, which is corner `edge` again if no other is dry. So with four odd edges each wet corner
-// is cut off by its own step.
+// is cut off by its own step. The number is that of the definition `step_from`, which has 4 for none.
 pub fn step_from(pattern: usize, edge: usize) -> u8
     requires { (pattern < 16) × (edge < 4) }
     ensures { result ≡ step_from pattern edge }
@@ -29,13 +29,6 @@ pub fn step_from(pattern: usize, edge: usize) -> u8
     // Without the first mark the wet corners in a row are 1s at the low end: `!` makes them 0s, which are counted.
     let wet_to_right = usize::trailing_zeros(!(marks / 2)) as usize;
     ((edge + wet_to_right) % 4) as u8
-}
-
-// A byte as an index.
-fn wide(x: u8) -> usize
-    ensures { result ≡ x }
-{
-    x as usize
 }
 
 // Digit j of a row, where twelve rows of four digits are kept in three numbers, the first digit lowest: rows 0 to 3 in a, 4 to 7 in b, 8 to 11 in c.
@@ -93,7 +86,7 @@ fn row_mark(mask: u16, row: usize, j: usize) -> usize
     requires { (row < 12) × (j < 4) }
     ensures { (result ≡ bit (wet_digit mask (row_corner row j))) × (result ≤ 1) }
 {
-    (trace::wide(mask) >> row_corner(row, j)) % 2
+    (usize::from(mask) >> row_corner(row, j)) % 2
 }
 
 // The wet pattern of a row of record m.
@@ -115,7 +108,7 @@ fn edge_step(crossings: &[u16], trace: &mut [u16], row: usize, m: usize, pattern
     requires fits { Fits (edge_steps crossings.now row m pattern j) (length trace.old) }
     ensures { trace.new ≡ recorded (edge_steps crossings.now row m pattern j) trace.old }
 {
-    let k = wide(step_from(pattern, j));
+    let k = usize::from(step_from(pattern, j));
     if k >= 4 {
         return;
     }
@@ -124,14 +117,18 @@ fn edge_step(crossings: &[u16], trace: &mut [u16], row: usize, m: usize, pattern
     trace::record_step(trace, from, to);
 }
 
-// The first edge by which a step enters in a pattern; 4 where none enters. Bit i of `next` says that corner i + 1 is wet, and bit i of 15 - pattern that corner
-// i is dry: a step enters by edge i where both are set. The lowest such bit is found; 16 is bit 4, found where there is none.
-fn first_entry(pattern: usize) -> usize
+// The first edge by which a step enters in a pattern, if one does. Bit i of `next` says that corner i + 1 is wet, and bit i of 15 - pattern that corner i is
+// dry: a step enters by edge i where both are set, and the lowest such bit is found.
+fn first_entry(pattern: usize) -> Option<usize>
     requires { pattern < 16 }
-    ensures { result ≡ first_entry pattern }
+    ensures { MatchOption result (first_entry pattern ≡ 4) (λ j. (j ≡ first_entry pattern) × (j < 4)) }
 {
     let next = 17 * pattern / 2;
-    usize::trailing_zeros(16 + (next & (15 - pattern))) as usize
+    let entered = next & (15 - pattern);
+    if entered == 0 {
+        return None;
+    }
+    Some(usize::trailing_zeros(entered) as usize)
 }
 
 // Records the steps in a row of record m. None enters where all corners are wet or all are dry; else one enters by the first edge from a dry corner to a
@@ -142,58 +139,56 @@ fn row_steps(crossings: &[u16], trace: &mut [u16], row: usize, m: usize)
     ensures { trace.new ≡ recorded (row_steps crossings.now row m) trace.old }
 {
     let pattern = row_pattern(crossings, row, m);
-    if pattern % 15 == 0 {
+    let Some(j) = first_entry(pattern) else {
         return;
-    }
-    let j = first_entry(pattern);
+    };
     edge_step(crossings, trace, row, m, pattern, j);
     if pattern % 5 == 0 {
         edge_step(crossings, trace, row, m, pattern, j + 2);
     }
 }
 
-// Records the steps in the small faces of a row of record m: where it is split, quarter after quarter.
-fn small_steps(cells: &[u8], crossings: &[u16], trace: &mut [u16], row: usize, m: usize)
-    requires roomy { Roomy cells.now crossings.now }
-    requires row_bound { (row < 12) × (m < length cells.now / 4) }
-    requires fits { Fits (small_table_steps cells.now crossings.now row m) (length trace.old) }
-    ensures { trace.new ≡ recorded (small_table_steps cells.now crossings.now row m) trace.old }
-{
-    let first = records::cell_entry(cells, m) as usize;
-    if first == 0 {
-        row_steps(crossings, trace, row, m);
-        return;
-    }
-    let mut i: usize = 0;
-    while i < 4 {
-        let child = first + row_corner(row, quarter(i));
-        small_steps(cells, crossings, trace, row, child);
-        i += 1;
-    }
+// The cells of a survey, and the crossings on their edges, of which there is room for those of each cell.
+#[derive(Clone, Copy)]
+struct Tables<'a> {
+    cells: &'a [u8],
+    crossings: &'a [u16],
+    ghost roomy: { Roomy cells.now crossings.now },
 }
 
-// Records the steps on side i of the leaf of record n: in the small faces of the split cell across, or in its own side.
-fn side_steps(
-    cells: &[u8],
-    across: &[u16],
-    crossings: &[u16],
-    trace: &mut [u16],
-    n: usize,
-    i: usize,
-)
-    requires roomy { Roomy cells.now crossings.now }
-    requires reaching { Reaching cells.now across.now n }
-    requires i_bound { i < 6 }
-    requires fits { Fits (side_table_steps cells.now across.now crossings.now n i) (length trace.old) }
-    ensures { trace.new
-        ≡ recorded (side_table_steps cells.now across.now crossings.now n i) trace.old }
-{
-    let beyond = trace::wide(across[6 * n + i]);
-    if beyond == 0 {
-        row_steps(crossings, trace, i, n);
-        return;
+impl Tables<'_> {
+    // Records the steps in the small faces of a row of record m: where it is split, quarter after quarter.
+    fn small_steps(self, trace: &mut [u16], row: usize, m: usize)
+        requires row_bound { (row < 12) × (m < length self.cells.now / 4) }
+        requires fits { Fits (small_table_steps self.cells.now self.crossings.now row m) (length trace.old) }
+        ensures { trace.new ≡ recorded (small_table_steps self.entry.cells.now self.entry.crossings.now row m) trace.old }
+    {
+        let first = records::cell_entry(self.cells, m) as usize;
+        if first == 0 {
+            row_steps(self.crossings, trace, row, m);
+            return;
+        }
+        for i in 0..4 {
+            let child = first + row_corner(row, quarter(i));
+            self.small_steps(trace, row, child);
+        }
     }
-    small_steps(cells, crossings, trace, 6 + i, beyond);
+
+    // Records the steps on side i of the leaf of record n: in the small faces of the split cell across, or in its own side.
+    fn side_steps(self, across: &[u16], trace: &mut [u16], n: usize, i: usize)
+        requires reaching { Reaching self.cells.now across.now n }
+        requires i_bound { i < 6 }
+        requires fits { Fits (side_table_steps self.cells.now across.now self.crossings.now n i) (length trace.old) }
+        ensures { trace.new
+            ≡ recorded (side_table_steps self.entry.cells.now across.now self.entry.crossings.now n i) trace.old }
+    {
+        let beyond = usize::from(across[6 * n + i]);
+        if beyond == 0 {
+            row_steps(self.crossings, trace, i, n);
+            return;
+        }
+        self.small_steps(trace, 6 + i, beyond);
+    }
 }
 
 // Records the face steps of the leaf of record n, side after side.
@@ -204,9 +199,8 @@ pub fn leaf_steps(cells: &[u8], across: &[u16], crossings: &[u16], trace: &mut [
     ensures { trace.new
         ≡ recorded (leaf_table_steps cells.now across.now crossings.now n) trace.old }
 {
-    let mut i: usize = 0;
-    while i < 6 {
-        side_steps(cells, across, crossings, trace, n, i);
-        i += 1;
+    let tables = Tables { cells, crossings };
+    for i in 0..6 {
+        tables.side_steps(across, trace, n, i);
     }
 }

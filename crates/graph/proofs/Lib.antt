@@ -10,3 +10,4 @@ pub mod Choosing
 pub mod Following
 pub mod Transfer
 pub mod Few
+pub mod Links

@@ -23,35 +23,12 @@ const PAST: u16 = 0x0101;
 // How many places the queue has: one for each corner, and six more, which `visit` asks for before it knows whether any link leads to a new corner.
 const QUEUE: usize = 4878;
 
-// A number of a table as an index.
-pub fn wide(v: u16) -> usize
-    ensures { result ≡ v }
-{
-    v as usize
-}
-
 // The first elements, set to 0.
 pub fn clear(found: &mut [u16], count: usize)
     requires { count ≤ length found.old }
     ensures { found.new ≡ replicate count 0 ++ drop count found.old }
 {
-    let mut k: usize = 0;
-    while k < count {
-        found[k] = 0;
-        k += 1;
-    }
-}
-
-// Copies the first elements of a slice.
-fn copy(from: &[u16], count: usize, to: &mut [u16])
-    requires { (count ≤ length from.now) × (count ≤ length to.old) }
-    ensures { to.new ≡ take count from.now ++ drop count to.old }
-{
-    let mut i: usize = 0;
-    while i < count {
-        to[i] = from[i];
-        i += 1;
-    }
+    found[..count].fill(0);
 }
 
 // The rank of a corner that is looked at: this one, if it had none.
@@ -68,10 +45,7 @@ fn ranked(old: u16, rank: u16) -> u16
 fn newly(old: u16) -> usize
     ensures { result ≡ bit (eqb old 0) }
 {
-    if old == 0 {
-        return 1;
-    }
-    0
+    usize::from(old == 0)
 }
 
 // Looks at corner j: if it has no rank yet it gets this one, and the place at the queue's end that it is put into counts. How many are in the queue then.
@@ -85,49 +59,6 @@ fn reach(found: &mut [u16], queue: &mut [u16], tail: usize, j: usize, rank: u16)
     queue[tail] = j as u16;
     found[j] = ranked(old, rank);
     tail + newly(old)
-}
-
-// Follows the six links of corner k. How many are in the queue then.
-fn visit(
-    links: &[u16],
-    k: usize,
-    rank: u16,
-    found: &mut [u16],
-    queue: &mut [u16],
-    tail: usize,
-) -> usize
-    requires links_len { (length links.now ≡ 29232) × Within links.now × (k < 4872) }
-    requires found_len { (length found.old ≡ 4884) × (tail + 6 ≤ length queue.old) }
-    ensures { record { tail = result; found = found.new; queue = queue.new }
-        ≡ visited links.now rank k 6 (record { tail = tail; found = found.old; queue = queue.old }) }
-{
-    let mut end = tail;
-    let mut i: usize = 0;
-    while i < 6 {
-        end = reach(found, queue, end, wide(links[6 * k + i]), rank);
-        i += 1;
-    }
-    end
-}
-
-// The fewest steps from a corner to each that can be reached from it, plus one, and 0 for the others: breadth first. All ranks are PAST before, so that what
-// is past the corners is never new.
-fn explore(links: &[u16], count: usize, start: usize, found: &mut [u16], queue: &mut [u16])
-    requires links_len { (length links.now ≡ 29232) × Within links.now × (count ≤ 4872) × (start < count) }
-    requires found_value { (found.old ≡ replicate 4884 257) × (length queue.old ≡ 4878) }
-    ensures { found.new ≡ fewest_steps (graph_in links.now count) start ++ drop count found.old }
-{
-    clear(found, count);
-    found[start] = 1;
-    queue[0] = start as u16;
-    let mut head: usize = 0;
-    let mut tail: usize = 1;
-    while head < tail {
-        let k = wide(queue[head]);
-        let rank = found[k] + 1;
-        tail = visit(links, k, rank, found, queue, tail);
-        head += 1;
-    }
 }
 
 // The lower record number of the best corner so far and corner j, which counts only if it has this rank.
@@ -144,36 +75,78 @@ fn better(back: &[u16], best: usize, j: usize, rank: u16) -> usize
     j
 }
 
-// The corner of lowest record number that is joined to corner k and has this rank, or 0 if none has.
-fn lowest(links: &[u16], back: &[u16], count: usize, k: usize, rank: u16) -> usize
-    requires { (length links.now ≡ 29232) × (count ≤ 4872) × (k < count) × (count ≤ length back.now) }
-    ensures value { result ≡ lowest_link links.now back.now count k rank }
-    ensures upper_bound { result < count }
-{
-    let mut best = count;
-    let mut i: usize = 0;
-    while i < 6 {
-        best = better(back, best, wide(links[6 * k + i]), rank);
-        i += 1;
-    }
-    if best == count {
-        return 0;
-    }
-    best
+// The table of links, of which the first `count` corners are in use.
+#[derive(Clone, Copy)]
+struct LinkTable<'a> {
+    links: &'a [u16],
+    count: usize,
+    ghost room: { length links.now ≡ 29232 },
+    ghost within: { Within links.now },
+    ghost few: { count ≤ 4872 },
 }
 
-// Writes n corners from the start on: always that of lowest record number that is joined to the one before and has a rank lower by one.
-fn follow(links: &[u16], back: &[u16], count: usize, start: usize, n: usize, way: &mut [u16])
-    requires links_len { (length links.now ≡ 29232) × (count ≤ 4872) × (start < count) × (count ≤ length back.now) }
-    requires n_in_bounds { (n ≤ length way.old) × (n ≤ 4872) }
-    ensures { way.new ≡ followed links.now back.now count n start ++ drop n way.old }
-{
-    let mut k = start;
-    let mut i: usize = 0;
-    while i < n {
-        way[i] = k as u16;
-        i += 1;
-        k = lowest(links, back, count, k, (n - i) as u16);
+impl LinkTable<'_> {
+    // Follows the six links of corner k. How many are in the queue then.
+    fn visit(self, k: usize, rank: u16, found: &mut [u16], queue: &mut [u16], tail: usize) -> usize
+        requires corner { k < 4872 }
+        requires found_len { (length found.old ≡ 4884) × (tail + 6 ≤ length queue.old) }
+        ensures { record { tail = result; found = found.new; queue = queue.new }
+            ≡ visited self.entry.links.now rank k 6 (record { tail = tail; found = found.old; queue = queue.old }) }
+    {
+        let mut end = tail;
+        for link in &self.links[6 * k..6 * k + 6] {
+            end = reach(found, queue, end, usize::from(*link), rank);
+        }
+        end
+    }
+
+    // The fewest steps from a corner to each that can be reached from it, plus one, and 0 for the others: breadth first. All ranks are PAST before, so that
+    // what is past the corners is never new.
+    fn explore(self, start: usize, found: &mut [u16], queue: &mut [u16])
+        requires start_bound { start < self.count }
+        requires found_value { (found.old ≡ replicate 4884 257) × (length queue.old ≡ 4878) }
+        ensures { found.new ≡ fewest_steps (graph_in self.entry.links.now self.entry.count) start ++ drop self.entry.count found.old }
+    {
+        clear(found, self.count);
+        found[start] = 1;
+        queue[0] = start as u16;
+        let mut head: usize = 0;
+        let mut tail: usize = 1;
+        while head < tail {
+            let k = usize::from(queue[head]);
+            let rank = found[k] + 1;
+            tail = self.visit(k, rank, found, queue, tail);
+            head += 1;
+        }
+    }
+
+    // The corner of lowest record number that is joined to corner k and has this rank, or 0 if none has.
+    fn lowest(self, back: &[u16], k: usize, rank: u16) -> usize
+        requires { (k < self.count) × (self.count ≤ length back.now) }
+        ensures value { result ≡ lowest_link self.entry.links.now back.now self.entry.count k rank }
+        ensures upper_bound { result < self.entry.count }
+    {
+        let mut best = self.count;
+        for link in &self.links[6 * k..6 * k + 6] {
+            best = better(back, best, usize::from(*link), rank);
+        }
+        if best == self.count {
+            return 0;
+        }
+        best
+    }
+
+    // Writes n corners from the start on: always that of lowest record number that is joined to the one before and has a rank lower by one.
+    fn follow(self, back: &[u16], start: usize, n: usize, way: &mut [u16])
+        requires start_bound { (start < self.count) × (self.count ≤ length back.now) }
+        requires n_in_bounds { (n ≤ length way.old) × (n ≤ 4872) }
+        ensures { way.new ≡ followed self.entry.links.now back.now self.entry.count n start ++ drop n way.old }
+    {
+        let mut k = start;
+        for i in 0..n {
+            way[i] = k as u16;
+            k = self.lowest(back, k, (n - i - 1) as u16);
+        }
     }
 }
 
@@ -184,8 +157,8 @@ pub fn rank_corners(links: &[u16], count: usize, start: usize, ranks: &mut [u16]
 {
     let mut queue = [0u16; QUEUE];
     let mut found = [PAST; RANKS];
-    explore(links, count, start, &mut found, &mut queue);
-    copy(&found, count, ranks);
+    LinkTable { links, count }.explore(start, &mut found, &mut queue);
+    ranks[..count].copy_from_slice(&found[..count]);
 }
 
 // Writes a way of n corners: from the start on, always to the corner of lowest record number that is joined and one step nearer to the end, by the ranks from
@@ -198,6 +171,7 @@ pub fn write_way(links: &[u16], count: usize, start: usize, end: usize, n: usize
 {
     let mut queue = [0u16; QUEUE];
     let mut back = [PAST; RANKS];
-    explore(links, count, end, &mut back, &mut queue);
-    follow(links, &back, count, start, n, way);
+    let table = LinkTable { links, count };
+    table.explore(end, &mut back, &mut queue);
+    table.follow(&back, start, n, way);
 }

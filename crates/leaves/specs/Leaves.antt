@@ -11,6 +11,7 @@ use Rattle.crossings.specs.Crossings.{Crossings}
 use Rattle.edges.specs.Tables.{Twins}
 use Rattle.trace.specs.Trace.{Traced}
 use Rattle.loops.specs.Loops.{into}
+use Rattle.leaves.specs.declared.LeafTables.{LeafTables}
 
 -- The tables of an accepted survey with this cell table, and an empty trace with room for its points. The corner table and the clearance are nowhere
 -- in the code of a pass: what they say stands in the tables.
@@ -24,6 +25,10 @@ pub record Ready (tc across crossings twins trace : List ℕ) : Type 0 where
   pub limit : ℕ
   pub reach : length (point_edges (survey_of tc corners clearance)) ≤ limit
   pub empty : Traced limit [] trace
+
+-- the same of the tables as one
+abbrev pub TablesReady : LeafTables → List ℕ → Type 0
+TablesReady t trace = Ready t.cells.now t.across.now t.crossings.now t.twins.now trace
 
 -- the survey that they are of
 abbrev pub survey : {tc across crossings twins trace : List ℕ} → Ready tc across crossings twins trace → Survey

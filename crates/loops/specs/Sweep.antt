@@ -1,7 +1,7 @@
 -- The way through the points of a leaf in rising order, each loop from the first of its points that comes: what is done when the points below
 -- one are passed.
 -- Assumes nothing: these are definitions.
-use Rattle.std.specs.Prelude.{◌≡◌, ◌⊎◌, Bool, true, false, cond, List, ℕ, ◌+◌, ◌*◌, ◌≤◌, ◌<◌, eqb, length, get_or, set}
+use Rattle.std.specs.Prelude.{◌≡◌, ◌⊎◌, Bool, true, false, cond, List, ℕ, zero, suc, ◌+◌, ◌*◌, ◌≤◌, ◌<◌, min, eqb, Option, None, Some, length, get_or, set}
 use Rattle.std.proofs.lemmas.List.Edits.{sets}
 use Rattle.base.specs.Lists.{keep, collect, count}
 use Rattle.rules.specs.Steps.{Step, Triangle, onward, loop, lowest_first, loops, fan}
@@ -32,6 +32,19 @@ clear_at t v = set (set t (3 * v + 1) 65535) (3 * v + 2) 65535
 pub record Stepped (twins : List ℕ) (w r : Walk) (t u : List ℕ) : Type 0 where
   pub walk : r ≡ on_of t twins w
   pub trace : u ≡ clear_at t w.at
+
+-- the lower of a number and of the point v, which counts only where it has a mark
+abbrev pub lower_of : List ℕ → ℕ → ℕ → ℕ
+lower_of t v r = cond (eqb (mark_at t v) 1) (min v r) r
+
+-- the lowest of the first n points of the list that has a mark, or 65,535
+abbrev pub lowest_of : List ℕ → ℕ → ℕ
+lowest_of t zero = 65535
+lowest_of t (suc n) = lower_of t (met_at t n) (lowest_of t n)
+
+-- the point that such a number stands for, if it does
+abbrev pub point_of : ℕ → Option ℕ
+point_of r = cond (eqb r 65535) None (Some r)
 
 -- Of the first n points of the list, r is the lowest that has a mark, or 65,535.
 pub record Lowest (t : List ℕ) (n r : ℕ) : Type 0 where

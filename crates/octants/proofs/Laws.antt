@@ -26,6 +26,3 @@ module _ (tk table t u : List ℕ) (n : ℕ) (o : LookedUp tk table t n) (l : n 
       go : (m i : ℕ) → m < n + 1 → i < 8 → Dec (m ≡ n) → get_or (written_at (found n) (8 * n) 8 t) (8 * m + i) 0 ≡ found m i
       go m i h g (yes q) = rw q (written-here (found n) (8 * n) 8 i t fits g)
       go m i h g (no q) = written-before (found n) (8 * n) 8 (8 * m + i) t fits (omega arith) ∙ o.number m i (omega arith) g
-
-pub fewer : (tk table t : List ℕ) (n m : ℕ) → m ≤ n → LookedUp tk table t n → LookedUp tk table t m
-fewer tk table t n m h o = record { room = o.room; number = λ k i u g. o.number k i (omega arith) g }

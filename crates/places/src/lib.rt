@@ -22,13 +22,11 @@ pub struct Point {
 pub fn coordinate(c: Corner, axis: u32) -> u16
     ensures { result ≡ along (axis_of axis) (place_of c) }
 {
-    if axis == 0 {
-        return c.x;
+    match axis {
+        0 => c.x,
+        1 => c.y,
+        _ => c.z,
     }
-    if axis == 1 {
-        return c.y;
-    }
-    c.z
 }
 
 // The moving coordinate of the point between a dry end and a wet one, `far`, reckoned from the dry end.
@@ -36,12 +34,12 @@ pub fn place(dry: Corner, far: Corner, axis: u32, length: u16, clearance: f32) -
     ensures { result ≡ moving clearance (axis_of axis) length dry far }
 {
     let t = (clearance - dry.sounding) / (far.sounding - dry.sounding);
-    let way = length as f32 * t;
+    let way = f32::from(length) * t;
     let from = coordinate(dry, axis);
     if from < coordinate(far, axis) {
-        from as f32 + way
+        f32::from(from) + way
     } else {
-        from as f32 - way
+        f32::from(from) - way
     }
 }
 
@@ -49,24 +47,11 @@ pub fn place(dry: Corner, far: Corner, axis: u32, length: u16, clearance: f32) -
 fn spread(moved: f32, axis: u32, c: Corner) -> Point
     ensures { as_spot result ≡ spot (axis_of axis) moved (place_of c) }
 {
-    if axis == 0 {
-        return Point {
-            x: moved,
-            y: c.y as f32,
-            z: c.z as f32,
-        };
-    }
-    if axis == 1 {
-        return Point {
-            x: c.x as f32,
-            y: moved,
-            z: c.z as f32,
-        };
-    }
-    Point {
-        x: c.x as f32,
-        y: c.y as f32,
-        z: moved,
+    let (x, y, z) = (f32::from(c.x), f32::from(c.y), f32::from(c.z));
+    match axis {
+        0 => Point { x: moved, y, z },
+        1 => Point { x, y: moved, z },
+        _ => Point { x, y, z: moved },
     }
 }
 

@@ -2,25 +2,25 @@
 // guess only if that record has the key, and else it searches. So nothing need be known of what stands in the hints, and nothing is promised of it. There are
 // 8,192 hints, which are four pages (see docs/ARCHITECTURE.md, "Beside the proofs", for why not more), or 1,024, which are sooner cleared.
 //
-// A hint is the number of a record plus 8,192 times a tag of three bits, by which most hints for other keys are passed over. 65,535 stands for a free one.
-ghost use Rattle.std.specs.Prelude.{◌≡◌, true, ◌<◌, ◌≤◌, length};
+// A hint is the number of a record plus 8,192 times a tag of three bits, by which most hints for other keys are passed over.
+ghost use Rattle.std.specs.Prelude.{◌≡◌, true, ◌<◌, ◌≤◌, length, IfSome};
 ghost use Rattle.rules.specs.Outputs.{corner_limit, rising};
 ghost use Rattle.records.specs.Keys.{places_of, record_at};
+
+// What stands for a free hint.
+pub const FREE: u16 = 65535;
 
 // A key with its digits mixed. Any number serves; the factors spread the corners of an octree over the table.
 fn mixed(key: u64) -> u64 {
     key % 65536 * 12243079 + key / 65536 % 65536 * 52777471 + key / 4294967296 * 11112915
 }
 
-// A number brought into the range of so many hints: a remainder by a power of two, which is quick.
+// A number brought into the range of so many hints: where they are a power of two it is the remainder, which a mask makes without a branch.
 fn within(at: u64, hints: usize) -> usize
     requires { 1024 ≤ hints }
     ensures { result < hints }
 {
-    if hints < 8192 {
-        return (at % 1024) as usize;
-    }
-    (at % 8192) as usize
+    at as usize & (hints - 1)
 }
 
 // The tag of a key, by the mixed key: digits that say nothing of where its hints are, so that few keys with hints there have the same tag.
@@ -34,15 +34,12 @@ fn tag(mix: u64) -> u16
 fn enter(hints: &mut [u16], mix: u64, k: u16)
     requires { (1024 ≤ length hints.old) × (k < 8192) }
 {
-    let mut at = within(mix / 8192, hints.len());
-    let mut left: usize = 8;
-    while left > 0 {
-        if hints[at] == 65535 {
+    for step in 0..8 {
+        let at = within(mix / 8192 + step, hints.len());
+        if hints[at] == FREE {
             hints[at] = k + 8192 * tag(mix);
             return;
         }
-        at = within(at as u64 + 1, hints.len());
-        left -= 1;
     }
 }
 
@@ -51,36 +48,30 @@ pub fn fill(corners: &[u8], hints: &mut [u16])
     requires { (length corners.now ≤ corner_limit) × (1024 ≤ length hints.old) }
     ensures { length hints.new ≡ length hints.old }
 {
-    let count = corners.len() / records::SIZE;
-    let mut k: usize = 0;
-    while k < count {
+    let count = crate::count_of(corners);
+    for k in 0..count {
         enter(hints, mixed(records::key_at(corners, k)), k as u16);
-        k += 1;
     }
 }
 
-// The record that the hints guess to be at the place with this key: that of the first of the few hints for the key which has its tag; 65,535 where none has. A
-// free hint ends the search, since `enter` would have taken it.
-pub fn guess(hints: &[u16], key: u64) -> usize
+// The record that the hints guess to be at the place with this key: that of the first of the few hints for the key which has its tag. A free hint ends the
+// search, since `enter` would have taken it.
+pub fn guess(hints: &[u16], key: u64) -> Option<usize>
     requires { 1024 ≤ length hints.now }
-    ensures { result ≤ 65535 }
+    ensures { IfSome result (λ k. k < 8192) }
 {
     let mix = mixed(key);
     let sought = tag(mix);
-    let mut at = within(mix / 8192, hints.len());
-    let mut left: usize = 8;
-    while left > 0 {
-        let hint = hints[at];
-        if hint == 65535 {
-            return 65535;
+    for step in 0..8 {
+        let hint = hints[within(mix / 8192 + step, hints.len())];
+        if hint == FREE {
+            return None;
         }
         if hint / 8192 == sought {
-            return (hint % 8192) as usize;
+            return Some(usize::from(hint % 8192));
         }
-        at = within(at as u64 + 1, hints.len());
-        left -= 1;
     }
-    65535
+    None
 }
 
 // The look-up with hints: the number of the corner record at the place with this key, or the number of records where there is none.

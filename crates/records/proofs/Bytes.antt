@@ -4,7 +4,7 @@ use mathlib.Core.List.{List, [], ◌∷◌}
 use Prim.Native.Nat.{ℕ, zero, suc, ◌+◌, ◌*◌, ◌≤◌, ◌<◌}
 use native.Mathlib.Nat.{add-zero}
 use lib.Dec.{lit≤}
-use native.Mathlib.Numerals.{add-one, add-two}
+use native.Mathlib.Numerals.{add-one}
 use native.Mathlib.Omega.{arith}
 use lib.ListN.{length, get_or, take, drop}
 use lib.Seq.{drop-cons, take-take, drop-drop}
@@ -20,21 +20,6 @@ one_more t at n h = rw (drop-cons t at 0 h)
 pub little-two : (t : List ℕ) (at : ℕ) → at + 2 ≤ length t → little (bytes t at 2) ≡ get_or t at 0 + 256 * get_or t (at + 1) 0
 little-two t at h =
     rw (one_more t at 1 (omega arith), one_more t (suc at) 0 (omega arith), add-one) (omega arith)
-
-pub little_four : (t : List ℕ) (at : ℕ) → at + 4 ≤ length t → little (bytes t at 4) ≡ little (bytes t at 2) + 65536 * little (bytes t (at + 2) 2)
-little_four t at h =
-    rw (
-      little-two t at (omega arith),
-      little-two t (at + 2) (omega arith),
-      one_more t at 3 (omega arith),
-      one_more t (suc at) 2 (omega arith),
-      one_more t (suc (suc at)) 1 (omega arith),
-      one_more t (suc (suc (suc at))) 0 (omega arith),
-      add-one (at + 2),
-      add-one at,
-      add-two at,
-    )
-    (omega arith)
 
 part_of : {A : Type 0} (l : List A) (i n m : ℕ) → i + n ≤ m → take n (drop i (take m l)) ≡ take n (drop i l)
 part_of l zero n m h = take-take n m l (omega arith)

@@ -50,11 +50,11 @@ module _ (t : List ℕ) (b : Bytes t) where
       rising-turn (places_of t) (place_of nowhere) i (rw (length-places t) h)
       ∙ ap (λ w. w && rising (drop (i + 1) (places_of t))) (next-before i h)
 
-  pub rise_breaks : (i : ℕ) → i + 1 < record_count t → key_at t (i + 1) ≤ key_at t i → rising (drop i (places_of t)) ≡ false
-  rise_breaks i h g = turn i h ∙ rw (le-ltb (key_at t i) (key_at t (i + 1)) g)
+  pub rise_breaks : (i j : ℕ) → i + 1 ≡ j → j < record_count t → key_at t j ≤ key_at t i → rising (drop i (places_of t)) ≡ false
+  rise_breaks i j e h g = turn i (rw e h) ∙ rw (e, le-ltb (key_at t i) (key_at t j) g)
 
-  pub rise_goes_on : (i : ℕ) → i + 1 < record_count t → key_at t i < key_at t (i + 1) → rising (drop (i + 1) (places_of t)) ≡ rising (drop i (places_of t))
-  rise_goes_on i h g = sym (turn i h ∙ rw (lt-ltb (key_at t i) (key_at t (i + 1)) g))
+  pub rise_goes_on : (i j : ℕ) → i + 1 ≡ j → j < record_count t → key_at t i < key_at t j → rising (drop j (places_of t)) ≡ rising (drop i (places_of t))
+  rise_goes_on i j e h g = sym (turn i (rw e h) ∙ rw (e, lt-ltb (key_at t i) (key_at t j) g))
 
   pub rise_ends : (i : ℕ) → record_count t ≤ i + 1 → rising (drop i (places_of t)) ≡ true
   rise_ends i h = rising_short (drop i (places_of t)) (rw (length-drop i (places_of t), length-places t) (omega arith))

@@ -20,19 +20,12 @@ pub const LIMIT: usize = 58464;
 
 pub const AMENDMENT_LIMIT: usize = 12000;
 
-// A byte as a wider number, with its bound.
-fn wide(x: u8) -> u16
-    ensures { (result ≡ x) × (result < 256) }
-{
-    x as u16
-}
-
 // The two bytes at `at`, low byte first.
 pub fn read16(s: &[u8], at: usize) -> u16
     requires { at + 2 ≤ length s.now }
     ensures { result ≡ little (bytes s.now at 2) }
 {
-    wide(s[at]) + wide(s[at + 1]) * 256
+    u16::from_le_bytes([s[at], s[at + 1]])
 }
 
 // The four bytes at `at`, low byte first.
@@ -40,7 +33,7 @@ pub fn read32(s: &[u8], at: usize) -> u32
     requires { at + 4 ≤ length s.now }
     ensures { result ≡ little (bytes s.now at 4) }
 {
-    (read16(s, at) as u32) + (read16(s, at + 2) as u32) * 65536
+    u32::from_le_bytes([s[at], s[at + 1], s[at + 2], s[at + 3]])
 }
 
 // The entry of cell record `n`.
@@ -101,7 +94,7 @@ fn is_end(v: u16) -> bool
 pub fn is_outer(c: Corner) -> bool
     ensures { result ≡ is_outer (place_of c) }
 {
-    is_end(c.x) || (is_end(c.y) || is_end(c.z))
+    is_end(c.x) || is_end(c.y) || is_end(c.z)
 }
 
 // Finite and not beyond 1,048,576 either way.
@@ -115,7 +108,7 @@ pub fn in_range(x: f32) -> bool
 pub fn key_of(c: Corner) -> u64
     ensures { result ≡ key_of (place_of c) }
 {
-    (c.x as u64) + 65536 * (c.y as u64) + 4294967296 * (c.z as u64)
+    u64::from(c.x) + 65536 * u64::from(c.y) + 4294967296 * u64::from(c.z)
 }
 
 // The key of corner record `n`.
@@ -131,12 +124,10 @@ pub fn corners_rise(corners: &[u8], count: usize) -> bool
     requires { count ≡ record_count corners.now }
     ensures { result ≡ rising (places_of corners.now) }
 {
-    let mut i: usize = 0;
-    while i + 1 < count {
-        if key_at(corners, i + 1) <= key_at(corners, i) {
+    for i in 1..count {
+        if key_at(corners, i) <= key_at(corners, i - 1) {
             return false;
         }
-        i += 1;
     }
     true
 }

@@ -4,6 +4,7 @@ pub mod Edges
 pub mod Steps
 pub mod WhichEnd
 pub mod OpenAtBox
+pub mod Refusals
 pub mod Outputs
 pub mod Closing
 pub mod StepByAnswers

@@ -1,7 +1,7 @@
 -- Document 01, "Outputs and refusals": the checks in their order, and what each call gives for every input. Of document 02, the enquiry's answer has the
 -- wet end (request 1), drawing has check 12 (request 3), and check 2 is of 12-byte records (request 6). All is without amendments; with them, see
 -- Resounding.antt.
-use Rattle.std.specs.Prelude.{ℕ, suc, ◌+◌, ◌*◌, ◌%◌, ◌^◌, Bool, true, false, not, ◌&&◌, ◌||◌, cond, List, [], ◌∷◌, ◌++◌, map, eqb, ltb, length, drop, pos, Float}
+use Rattle.std.specs.Prelude.{ℕ, suc, ◌+◌, ◌*◌, ◌%◌, ◌^◌, Bool, true, false, not, ◌&&◌, ◌||◌, cond, List, [], ◌∷◌, ◌++◌, map, eqb, ltb, length, drop, pos, Float, Result, Ok, Err}
 use Rattle.std.specs.Float.{fin}
 use Rattle.std.specs.Float.Ieee.{le}
 use Rattle.base.specs.Lists.{any, all, first, collect, count}
@@ -12,9 +12,10 @@ use Rattle.rules.specs.Steps.{saddle_cut, Triangle, all_triangles}
 use Rattle.rules.specs.WhichEnd.{wet_end}
 use Rattle.rules.specs.OpenAtBox.{open_at_box}
 use Rattle.rules.specs.declared.End.{End}
+use Rattle.rules.specs.Refusals.{refusal_number}
+use Rattle.rules.specs.declared.Edge.{Edge}
 use Rattle.rules.specs.declared.Edge.TheVariants.{Even, Crossing}
-use Rattle.rules.specs.declared.Answer.{Answer}
-use Rattle.rules.specs.declared.Answer.TheVariants.{Refused, Found}
+use Rattle.rules.specs.declared.refusal.Refusal.{Refusal}
 use Rattle.rules.specs.declared.Drawn.{Drawn}
 
 -- the longest corner table, in bytes: 4,872 records
@@ -189,11 +190,11 @@ enquiry tc tk clearance axis p length =
     let answer = cond (odd s.is_wet a p l) (crossing (number_of s e) place (wet_end s.is_wet (edge a p l))) even in
     cond (eqb number 0) answer (refused number)
 
--- document 01's number and values, and document 02's wet end, for each case of the enums
-abbrev pub answered : Answer → Enquired
-answered (Refused n) = refused n
-answered (Found Even) = even
-answered (Found (Crossing n a b c end)) = crossing n (record { x = a; y = b; z = c }) end
+-- what the code's answer says: a refusal's number; else document 01's number and values, and document 02's wet end, for each case of the enum
+abbrev pub answered : Result Edge Refusal → Enquired
+answered (Err r) = refused (refusal_number r)
+answered (Ok Even) = even
+answered (Ok (Crossing n a b c end)) = crossing n (record { x = a; y = b; z = c }) end
 
 -- the place of a crossing lies on an edge; a refusal and an even edge have no place
 abbrev pub PlacedOn : CellEdge → Enquired → Type 0

@@ -3,6 +3,10 @@
 // Uses base. proofs/ has the surveys that document 01 wants proved, and examples of the requests.
 #![tactic(auto)]
 
+mod refusal;
+
+pub use refusal::Refusal;
+
 // A corner of the survey, taken up with its place and sounding together.
 #[derive(Clone, Copy)]
 pub struct Corner {
@@ -41,13 +45,6 @@ pub enum End {
 pub enum Edge {
     Even,
     Crossing(u32, f32, f32, f32, End),
-}
-
-// What the edge enquiry answers: a refusal's number alone, or the edge.
-#[derive(Clone, Copy)]
-pub enum Answer {
-    Refused(u32),
-    Found(Edge),
 }
 
 // What drawing returns: a number (0 if drawn) and both counts.

@@ -3,9 +3,12 @@
 use Prim.Native.Nat.{ℕ, zero, suc, ◌+◌, ◌/◌, ◌%◌, ◌^◌, ◌<◌, ◌≤◌, zero-le}
 use mathlib.Core.Path.{◌≡◌, refl, sym, ap, ◌∙◌}
 use mathlib.Core.Bool.{Bool, true, false, cond}
-use mathlib.Core.List.{List, [], ◌∷◌, ◌++◌}
+use mathlib.Core.List.{List, [], ◌∷◌, ◌++◌, map}
 use native.Mathlib.Omega.{arith}
-use lib.ListN.{length, length-append}
+use lib.ListN.{length, get_or, take, length-append, length-take}
+use lib.Seq.{take-suc}
+use native.Mathlib.Numerals.{add-one}
+use Rattle.std.proofs.lemmas.List.{map-append, length-map}
 use lib.Dec.{ltb}
 use borrow.Author.Tests.{lt-ltb, le-ltb}
 use Rattle.text.specs.Text.{digit, hex, decimal_in, decimal}
@@ -48,3 +51,28 @@ tenth_length v h l =
 pub hex-length : (v : ℕ) → length (hex v) ≡ 8
 unfolding hex
 hex-length v = refl
+
+-- the hexadecimal digits at some places, told by their bits
+abbrev pub hex_by : ℕ → List ℕ → List ℕ
+hex_by v shifts = map (λ k. digit (v / 2 ^ k % 16)) shifts
+
+abbrev pub places : List ℕ
+places = 28 ∷ 24 ∷ 20 ∷ 16 ∷ 12 ∷ 8 ∷ 4 ∷ 0 ∷ []
+
+pub hex-places : (v : ℕ) → hex_by v places ≡ hex v
+unfolding hex
+hex-places v =
+    let last : v / 1 ≡ v = omega arith in
+    ap (λ (d : ℕ).
+    digit (v / 0x1000_0000 % 16) ∷ digit (v / 0x100_0000 % 16) ∷ digit (v / 0x10_0000 % 16) ∷ digit (v / 0x1_0000 % 16) ∷
+    digit (v / 0x1000 % 16) ∷ digit (v / 0x100 % 16) ∷ digit (v / 0x10 % 16) ∷ digit (d % 16) ∷ []) last
+
+-- one place more
+pub hex_by-more : (v : ℕ) (shifts : List ℕ) (i : ℕ) → i < length shifts
+    → hex_by v (take i shifts) ++ digit (v / 2 ^ get_or shifts i 0 % 16) ∷ [] ≡ hex_by v (take (i + 1) shifts)
+hex_by-more v shifts i h =
+    sym (ap (hex_by v) (rw (add-one i) (take-suc shifts i 0 h))
+    ∙ map-append (λ k. digit (v / 2 ^ k % 16)) (take i shifts) (get_or shifts i 0 ∷ []))
+
+pub hex_by-length : (v : ℕ) (shifts : List ℕ) (i : ℕ) → length (hex_by v (take i shifts)) ≤ i
+hex_by-length v shifts i = rw length-map (omega (arith, length-take i shifts))

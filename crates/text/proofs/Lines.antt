@@ -5,14 +5,16 @@ use mathlib.Core.Path.{◌≡◌, sym, ap, ◌∙◌}
 use mathlib.Core.List.{List, [], ◌∷◌, ◌++◌, append-nil}
 use native.Mathlib.Omega.{arith}
 use native.Mathlib.Numerals.{add-one}
-use lib.ListN.{length, get_or, take-append-drop}
+use lib.ListN.{length, get_or}
 use lib.Ieee.{Float, nan}
 use borrow.Author.Tests.{eq-eqb, ne_eqb}
 use Rattle.base.specs.Lists.{collect, count}
 use Rattle.base.proofs.Lists.{collect_append}
 use Rattle.rules.specs.declared.Drawn.{Drawn}
 use Rattle.text.specs.Text.{count_line, point_line, triangle_line, refusal, point_lines, triangle_lines, listing}
-use Rattle.text.specs.Writing.{written_at, Wrote}
+use Rattle.text.specs.declared.Writer.{Writer}
+use Rattle.text.specs.Writing.{written_at, Wrote, Writes}
+use Rattle.text.proofs.Stores.{writes_nothing}
 
 count-more : (i n : ℕ) → count i (suc n) ≡ count i n ++ (i + n) ∷ []
 count-more i zero = ap (λ (k : ℕ). k ∷ []) (omega arith)
@@ -37,18 +39,13 @@ pub triangle_more : (ts : List ℕ) (n : ℕ)
 unfolding triangle_lines
 triangle_more ts n = collect-more (λ i. triangle_line (get_or ts (3 * i) 0) (get_or ts (3 * i + 1) 0) (get_or ts (3 * i + 2) 0)) n
 
--- no text is written
-nothing : (at k : ℕ) (xs : List ℕ) → Wrote [] k at xs xs at
-unfolding written_at
-nothing at k xs = record { ends = omega arith; room = omega arith; slice = sym (take-append-drop at xs) }
-
-pub no_point : (at : ℕ) (ps : List Float) (xs : List ℕ) → Wrote (point_lines 0 ps) (29 * 0) at xs xs at
+pub no_point : (ps : List Float) (a : Writer) → Writes (point_lines 0 ps) (29 * 0) a a
 unfolding point_lines
-no_point at ps xs = nothing at 0 xs
+no_point ps a = writes_nothing a
 
-pub no_triangle : (at : ℕ) (ts xs : List ℕ) → Wrote (triangle_lines 0 ts) (35 * 0) at xs xs at
+pub no_triangle : (ts : List ℕ) (a : Writer) → Writes (triangle_lines 0 ts) (35 * 0) a a
 unfolding triangle_lines
-no_triangle at ts xs = nothing at 0 xs
+no_triangle ts a = writes_nothing a
 
 -- the same text by another name, with more room
 pub same_text : {p q xs ys : List ℕ} {m n at r : ℕ} → p ≡ q → m ≤ n → Wrote p m at xs ys r → Wrote q n at xs ys r
@@ -57,6 +54,9 @@ same_text {p} {q} {xs} {ys} {m} {n} {at} {r} e h w = record {
   room = omega (arith, w.room);
   slice = w.slice ∙ ap (λ (t : List ℕ). written_at at t xs) e;
 }
+
+pub same_writes : {p q : List ℕ} {m n : ℕ} {a b : Writer} → p ≡ q → m ≤ n → Writes p m a b → Writes q n a b
+same_writes e h w = record { wrote = same_text e h w.wrote; long = w.long; same = w.same }
 
 module _ (d : Drawn) (ps : List Float) (ts : List ℕ) where
   pub listing-drawn : d.number ≡ 0

@@ -1,13 +1,16 @@
 -- Texts written one after another are one text; bytes stored one after another are a text.
 -- Assumes nothing.
-use Prim.Native.Nat.{ℕ, suc, ◌+◌, ◌≤◌}
+use Prim.Native.Nat.{ℕ, ◌+◌, ◌-◌, ◌≤◌}
 use mathlib.Core.Path.{◌≡◌, refl, sym, ap, ◌∙◌}
 use mathlib.Core.List.{List, [], ◌∷◌, ◌++◌, append_assoc}
 use native.Mathlib.Omega.{arith}
-use native.Mathlib.Nat.{add-suc, zero-add}
-use lib.ListN.{length, set, take, drop, length-append}
-use lib.Seq.{sets, sets-eq, length-take-le, drop-drop, take_at, drop_at}
-use Rattle.text.specs.Writing.{written_at, Wrote}
+use native.Mathlib.Nat.{zero-add}
+use lib.ListN.{length, set, take, drop, length-append, take-append-drop, length-take, length-drop}
+use lib.Seq.{sets-eq, length-take-le, drop-drop, take_at, drop_at}
+use borrow.Rule.Slice.Mut.{set_vals}
+use borrow.Rule.Slice.PartMut.{put_mid}
+use Rattle.text.specs.declared.Writer.{Writer}
+use Rattle.text.specs.Writing.{written_at, Wrote, Writes}
 
 -- the slice with the text in its place
 pub written_is : (at : ℕ) (p xs : List ℕ) → written_at at p xs ≡ take at xs ++ p ++ drop (at + length p) xs
@@ -44,28 +47,41 @@ renamed {p} {q} {xs} {ys} {m} {at} {r} n e h w =
     let ends : r ≡ at + length q = w.ends ∙ ap (λ (t : List ℕ). at + length t) e in
     record { ends = ends; room = omega arith; slice = w.slice ∙ ap (λ (t : List ℕ). written_at at t xs) e }
 
--- bytes stored from `at` + i on, one after another
-abbrev pub stores : List ℕ → ℕ → ℕ → List ℕ → List ℕ
-stores l at i [] = l
-stores l at i (v ∷ vs) = stores (set l (at + i) v) at (suc i) vs
-
--- bytes stored from `at` on
-abbrev pub laid : List ℕ → ℕ → List ℕ → List ℕ
-laid l at [] = l
-laid l at (v ∷ vs) = stores (set l at v) at 1 vs
-
-stores_are : (vs l : List ℕ) (at i : ℕ) → stores l at i vs ≡ sets l (at + i) vs
-stores_are [] l at i = refl
-stores_are (v ∷ vs) l at i = stores_are vs (set l (at + i) v) at (suc i) ∙ ap (λ (n : ℕ). sets (set l (at + i) v) n vs) (add-suc at i)
-
-laid_is : (vs l : List ℕ) (at : ℕ) → laid l at vs ≡ sets l at vs
-laid_is [] l at = refl
-laid_is (v ∷ vs) l at = stores_are vs (set l at v) at 1 ∙ ap (λ (n : ℕ). sets (set l at v) n vs) (let e : at + 1 ≡ suc at = omega arith in e)
-
-pub stored : (vs l : List ℕ) (at : ℕ) → at + length vs ≤ length l → laid l at vs ≡ written_at at vs l
-stored vs l at h = laid_is vs l at ∙ sets-eq vs l at h ∙ sym (written_is at vs l)
+-- a byte stored
+pub stored : (v : ℕ) (l : List ℕ) (at : ℕ) → at + 1 ≤ length l → set l at v ≡ written_at at (v ∷ []) l
+stored v l at h = sets-eq (v ∷ []) l at h ∙ sym (written_is at (v ∷ []) l)
 
 -- the front of a slice to which a text is written is the text
 pub front_is : {text xs ys : List ℕ} {most r : ℕ} → Wrote text most 0 xs ys r → take r ys ≡ text
 unfolding written_at
 front_is {text} {xs} {ys} {most} {r} w = ap (take r) w.slice ∙ take_at text (drop (length text) xs) r (sym (w.ends ∙ zero-add (length text)))
+
+-- ---- the same of a writer
+
+pub writes_then : {p q : List ℕ} {m n : ℕ} {a b c : Writer} → Writes p m a b → Writes q n b c → a.at ≤ length a.line.now
+    → Writes (p ++ q) (m + n) a c
+writes_then u v h = record { wrote = wrote_then u.wrote v.wrote h; long = v.long ∙ u.long; same = v.same ∙ u.same }
+
+pub writes-renamed : {p q : List ℕ} {m : ℕ} {a b : Writer} (n : ℕ) → p ≡ q → length q ≤ n → Writes p m a b → Writes q n a b
+writes-renamed n e h w = record { wrote = renamed n e h w.wrote; long = w.long; same = w.same }
+
+-- no text is written
+pub writes_nothing : (a : Writer) → Writes [] 0 a a
+unfolding written_at
+writes_nothing a = record {
+  wrote = record { ends = omega arith; room = omega arith; slice = sym (take-append-drop a.at a.line.now) };
+  long = refl;
+  same = refl;
+}
+
+-- bytes that stand elsewhere are copied
+pub copied : (text : List ℕ) (a : Writer) (part : List ℕ) → part ≡ text → a.at + length text ≤ length a.line.now
+    → Writes text (length text) a (record { line = set_vals (put_mid a.at (a.at + length text - a.at) a.line.now part) a.line; at = a.at + length text })
+unfolding written_at
+copied text a part is h =
+    let size : a.at + length text - a.at ≡ length text = omega arith in
+    record {
+      wrote = record { ends = refl; room = omega arith; slice = rw (size, is) };
+      long = simp (length-append, length-take, length-drop) (omega (arith, ap length is));
+      same = refl;
+    }

@@ -1,7 +1,6 @@
 -- Laws of the trace of a leaf: what a fresh table holds, one step more, steps in a row; what a step from a point says.
 --     left_or_not             a step leaves v, and the table has its end; or none does
 --     left_keeps, met-more    the stores of a step: its end, and a point that it meets
---     meet_marked, meet_full, meet_new      a point is met that was met before, that has no room in the list, that is new
 --     empty, fresh            a table without marks and ends, with 0 in front, holds no step; one of 65,535 throughout, with 0 in front
 --     traced-more             what held some steps holds these and the steps recorded
 --     recorded_append, length-recorded      steps recorded after others; the table stays as long as it was
@@ -17,7 +16,7 @@ use native.Mathlib.Decide.{ℕ_discrete}
 use lib.Dec.{eqb, ltb}
 use lib.ListN.{length, get_or, set, take, length-set, replicate, length-replicate, get_or-replicate}
 use lib.Seq.{get_or-set_same, get_or-set_other, get_or-take, length-take-le}
-use borrow.Author.Tests.{eq-eqb, ne_eqb, lt-ltb, le-ltb}
+use borrow.Author.Tests.{eq-eqb, ne_eqb, lt-ltb}
 use Rattle.base.specs.Lists.{first, bit, keep, count, sum}
 use Rattle.base.proofs.Tests.{or_or, or_none}
 use Rattle.base.proofs.Lists.{count_in}
@@ -290,24 +289,6 @@ length-one s t = met (meet_at (leave_at t s.0 s.1) s.0) s.1 ∙ met (leave_at t 
 pub length-recorded : (ss : List Step) (t : List ℕ) → length (recorded ss t) ≡ length t
 length-recorded [] t = refl
 length-recorded (s ∷ ss) t = length-recorded ss (record_one s t) ∙ length-one s t
-
--- ---- a point that is met
-
-module _ (t : List ℕ) (v : ℕ) where
-  pub meet_marked : (mark_at t v ≡ 65535 → ⊥) → t ≡ meet_at t v
-  meet_marked d = rw (ne_eqb (mark_at t v) 65535 d)
-
-  pub meet_full : length t ≤ 3 * met_count t + 3 → t ≡ meet_at t v
-  meet_full h = go (eqb (mark_at t v) 65535) (le-ltb (3 * met_count t + 3) (length t) h)
-    where
-      go : (b : Bool) → ltb (3 * met_count t + 3) (length t) ≡ false
-          → t ≡ cond (b && ltb (3 * met_count t + 3) (length t)) (set (set (set t (3 * v + 2) 1) (3 * met_count t + 3) v) 0 (met_count t + 1)) t
-      go true e = rw e
-      go false e = refl
-
-  pub meet_new : mark_at t v ≡ 65535 → 3 * met_count t + 3 < length t
-      → set (set (set t (3 * v + 2) 1) (3 * met_count t + 3) v) 0 (met_count t + 1) ≡ meet_at t v
-  meet_new e h = rw (eq-eqb (mark_at t v) 65535 e, lt-ltb (3 * met_count t + 3) (length t) h)
 
 -- ---- fresh tables, and the list
 

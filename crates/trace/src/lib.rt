@@ -4,19 +4,12 @@
 ghost use Rattle.std.specs.Prelude.{◌≡◌, ◌+◌, ◌*◌, ◌≤◌, ◌<◌, length};
 ghost use Rattle.trace.specs.Trace.{leave_at, meet_at, record_one};
 
-// A number of the table as an index.
-pub fn wide(v: u16) -> usize
-    ensures { result ≡ v }
-{
-    v as usize
-}
-
-// A step leaves `from`: its end is kept unless one left there before.
+// A step leaves `from`: its end is kept unless one left there before. Here and in `meet` 65,535 stands for none: it is a number in a table of fixed memory.
 fn leave(trace: &mut [u16], from: u16, to: u16)
     requires { 3 * from + 1 < length trace.old }
     ensures { trace.new ≡ leave_at trace.old from to }
 {
-    let at = 3 * wide(from) + 1;
+    let at = 3 * usize::from(from) + 1;
     if trace[at] == 65535 {
         trace[at] = to;
     }
@@ -27,12 +20,12 @@ fn meet(trace: &mut [u16], v: u16)
     requires { (3 * v + 2 < length trace.old) × (length trace.old ≤ 43849) }
     ensures { trace.new ≡ meet_at trace.old v }
 {
-    let at = 3 * wide(v) + 2;
+    let at = 3 * usize::from(v) + 2;
     if trace[at] != 65535 {
         return;
     }
     let count = trace[0];
-    let end = 3 * wide(count) + 3;
+    let end = 3 * usize::from(count) + 3;
     if end >= trace.len() {
         return;
     }

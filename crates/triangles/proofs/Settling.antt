@@ -6,7 +6,7 @@
 use Prim.Native.Nat.{ℕ, ◌+◌, ◌*◌, ◌≤◌, ◌<◌}
 use native.Mathlib.Omega.{arith}
 use mathlib.Core.Path.{◌≡◌, refl, sym, ap, ◌∙◌, subst}
-use mathlib.Core.Bool.{Bool, true, false, not, ◌&&◌, cond}
+use mathlib.Core.Bool.{Bool, true, false, ◌&&◌, cond}
 use mathlib.Core.List.{List, [], ◌++◌}
 use lib.Dec.{leb}
 use lib.ListN.{length, set, take, drop, replicate, length-set, length-replicate}
@@ -22,14 +22,6 @@ use Rattle.trace.proofs.Laws.{fresh}
 use Rattle.loops.proofs.Slices.{into-all, length-numbers}
 use Rattle.leaves.specs.Leaves.{Ready, Drew}
 use Rattle.triangles.specs.Settled.{Known, Settled}
-
-unmarked : (b : Bool) → not b ≡ true → b ≡ false
-unmarked true e = sym e
-unmarked false e = refl
-
-marked : (b : Bool) → not b ≡ false → b ≡ true
-marked true e = refl
-marked false e = sym e
 
 module _ (limit : ℕ) (ts : List Triangle) (before after : List ℕ) (r : ℕ) (trace : List ℕ) (d : Drew limit ts before after r trace) where
   size : length (collect numbers ts) ≡ 3 * r
@@ -47,32 +39,32 @@ module _ (limit : ℕ) (ts : List Triangle) (before after : List ℕ) (r : ℕ) 
     wrote = is ∙ sym (ap (λ (b : Bool). cond b (written (collect numbers ts) slice) slice) e);
   }
 
-  pub unwanted : (slice : List ℕ) (write : Bool) → not write ≡ true → Settled ts write slice slice r
-  unwanted slice write e = settled slice slice write false (ap (λ (w : Bool). w && leb (3 * r) (length slice)) (unmarked write e)) refl
+  pub unwanted : (slice : List ℕ) (write : Bool) → write ≡ false → Settled ts write slice slice r
+  unwanted slice write e = settled slice slice write false (ap (λ (w : Bool). w && leb (3 * r) (length slice)) e) refl
 
-  pub too_short : (slice : List ℕ) (write : Bool) → not write ≡ false → length slice < 3 * r → Settled ts write slice slice r
+  pub too_short : (slice : List ℕ) (write : Bool) → write ≡ true → length slice < 3 * r → Settled ts write slice slice r
   too_short slice write e h =
-      settled slice slice write false (ap (λ (w : Bool). w && leb (3 * r) (length slice)) (marked write e) ∙ lt-leb (3 * r) (length slice) h) refl
+      settled slice slice write false (ap (λ (w : Bool). w && leb (3 * r) (length slice)) e ∙ lt-leb (3 * r) (length slice) h) refl
 
-  fits : (slice : List ℕ) (write : Bool) → not write ≡ false → 3 * r ≤ length slice → write && leb (3 * r) (length slice) ≡ true
-  fits slice write e h = ap (λ (w : Bool). w && leb (3 * r) (length slice)) (marked write e) ∙ le-leb (3 * r) (length slice) h
+  fits : (slice : List ℕ) (write : Bool) → write ≡ true → 3 * r ≤ length slice → write && leb (3 * r) (length slice) ≡ true
+  fits slice write e h = ap (λ (w : Bool). w && leb (3 * r) (length slice)) e ∙ le-leb (3 * r) (length slice) h
 
-  pub copied : (slice new : List ℕ) (write : Bool) → not write ≡ false → 3 * r ≤ length before → 3 * r ≤ length slice
+  pub copied : (slice new : List ℕ) (write : Bool) → write ≡ true → 3 * r ≤ length before → 3 * r ≤ length slice
       → new ≡ take (3 * r) after ++ drop (3 * r) slice → Settled ts write slice new r
   copied slice new write e room h is =
       let front : take (3 * r) after ≡ collect numbers ts =
       (λ i. take (sym size i) (whole room i)) ∙ take-append_seam (collect numbers ts) (drop (length (collect numbers ts)) before) in
       settled slice new write true (fits slice write e h) (is ∙ (λ i. front i ++ drop (sym size i) slice))
 
-  pub redrawn : (write : Bool) → not write ≡ false → 3 * r ≤ length before → Settled ts write before after r
+  pub redrawn : (write : Bool) → write ≡ true → 3 * r ≤ length before → Settled ts write before after r
   redrawn write e h = settled before after write true (fits before write e h) (whole h)
 
 -- a fresh trace
-pub made : (limit : ℕ) → limit ≤ 14616 → Traced limit [] (set {A = ℕ} (replicate (3 * limit + 1) 65535) 0 0)
-made limit small =
-    let whole = set {A = ℕ} (replicate (3 * limit + 1) 65535) 0 0 in
-    let size : length whole ≡ 3 * limit + 1 = length-set {A = ℕ} (replicate (3 * limit + 1) 65535) 0 0 ∙ length-replicate {A = ℕ} (3 * limit + 1) 65535 in
-    subst (Traced limit []) (take_all (3 * limit + 1) whole (omega (arith, size))) (fresh (3 * limit + 1) limit small (omega arith))
+pub made : (places limit : ℕ) → places ≡ 3 * limit + 1 → limit ≤ 14616 → Traced limit [] (set {A = ℕ} (replicate places 65535) 0 0)
+made places limit is small =
+    let whole = set {A = ℕ} (replicate places 65535) 0 0 in
+    let long : length whole ≡ places = length-set {A = ℕ} (replicate places 65535) 0 0 ∙ length-replicate {A = ℕ} places 65535 in
+    subst (Traced limit []) (take_all (3 * limit + 1) whole (omega (arith, long))) (fresh places limit small (omega arith))
 
 -- the tables of a survey with n points, and a fresh trace with room for them
 abbrev pub ready : (tc across crossings twins trace : List ℕ) (n : ℕ) (k : Known tc across crossings twins n) (limit : ℕ)

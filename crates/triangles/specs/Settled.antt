@@ -8,6 +8,7 @@ use Rattle.rules.specs.Outputs.{accepted, survey_of, numbers, written}
 use Rattle.edges.specs.Tables.{Twins}
 use Rattle.across.specs.Across.{Beyond}
 use Rattle.crossings.specs.Crossings.{Crossings}
+use Rattle.leaves.specs.declared.LeafTables.{LeafTables}
 
 -- The tables that the leaves are drawn from, of an accepted survey with this cell table and n points. The corner table and the clearance are nowhere in
 -- the code that draws the leaves.
@@ -19,6 +20,10 @@ pub record Known (tc across crossings twins : List ℕ) (n : ℕ) : Type 0 where
   pub crossed : Crossings (survey_of tc corners clearance) tc crossings
   pub twin : Twins (survey_of tc corners clearance) twins
   pub count : n ≡ length (point_edges (survey_of tc corners clearance))
+
+-- the same of the tables as one
+abbrev pub TablesKnown : LeafTables → ℕ → Type 0
+TablesKnown t n = Known t.cells.now t.across.now t.crossings.now t.twins.now n
 
 -- triangles are counted; and where that is asked for and the slice has room for all, they are written
 pub record Settled (ts : List Triangle) (write : Bool) (before after : List ℕ) (r : ℕ) : Type 0 where

@@ -2,41 +2,28 @@
 // Uses leaves and the tables that it describes.
 #![tactic(auto)]
 
-ghost use Rattle.std.specs.Prelude.{◌≡◌, ◌++◌, ◌≤◌, length, take, drop};
+ghost use Rattle.std.specs.Prelude.{◌≡◌, ◌+◌, ◌*◌, ◌%◌, ◌≤◌};
 ghost use Rattle.rules.specs.Steps.{all_triangles};
 ghost use Rattle.rules.specs.Outputs.{survey_of};
-ghost use Rattle.leaves.specs.Leaves.{Ready, survey};
-ghost use Rattle.triangles.specs.Settled.{Known, Settled};
+ghost use Rattle.leaves.specs.Leaves.{TablesReady, survey};
+ghost use Rattle.triangles.specs.Settled.{Known, TablesKnown, Settled};
 
-// Copies the first elements of a slice.
-fn copy(from: &[u32], end: usize, to: &mut [u32])
-    requires { (end ≤ length from.now) × (end ≤ length to.old) }
-    ensures { to.new ≡ take end from.now ++ drop end to.old }
-{
-    let mut i: usize = 0;
-    while i < end {
-        to[i] = from[i];
-        i += 1;
-    }
-}
+use leaves::LeafTables;
 
 // Draws all leaves into the scratch, which tells how many triangles there are. Where they are to be written and the slice has room for all of them, they are
 // copied from the scratch, or drawn again where that was too small.
 fn settle(
-    cells: &[u8],
-    across: &[u16],
-    crossings: &[u16],
-    twins: &[u16],
+    tables: &LeafTables,
     trace: &mut [u16],
     scratch: &mut [u32],
     write: bool,
     out: &mut [u32],
 ) -> u32
-    requires { Ready cells.now across.now crossings.now twins.now trace.old }
-    ensures { (d : Ready cells.now across.now crossings.now twins.now trace.old)
+    requires { TablesReady tables.now trace.old }
+    ensures { (d : TablesReady tables.now trace.old)
         → Settled (all_triangles (survey d)) write out.old out.new result }
 {
-    let m = leaves::draw_leaves(cells, across, crossings, twins, trace, scratch);
+    let m = tables.draw_leaves(trace, scratch);
     let end = 3 * (m as usize);
     if !write {
         return m;
@@ -45,71 +32,34 @@ fn settle(
         return m;
     }
     if end <= scratch.len() {
-        copy(scratch, end, out);
+        out[..end].copy_from_slice(&scratch[..end]);
         return m;
     }
-    leaves::draw_leaves(cells, across, crossings, twins, trace, out)
+    tables.draw_leaves(trace, out)
 }
 
-// The same with a trace and a scratch for few points.
-fn draw_few(
-    cells: &[u8],
-    across: &[u16],
-    crossings: &[u16],
-    twins: &[u16],
+// The same with a trace of TRACE places, three for each point and one more, and a scratch for SCRATCH numbers. The arrays are made first in the function: see
+// docs/ARCHITECTURE.md, "Beside the proofs".
+fn draw_within<const TRACE: usize, const SCRATCH: usize>(
+    tables: &LeafTables,
     n: usize,
     write: bool,
     out: &mut [u32],
 ) -> u32
-    requires { Known cells.now across.now crossings.now twins.now n × (n ≤ 512) }
-    ensures { (k : Known cells.now across.now crossings.now twins.now n)
-        → Settled (all_triangles (survey_of cells.now k.corners k.clearance)) write out.old out.new result }
+    requires known { TablesKnown tables.now n }
+    requires trace_in_bounds { (3 * n + 1 ≤ TRACE) × (TRACE ≤ 43849) × (TRACE % 3 ≡ 1) }
+    requires scratch_in_bounds { SCRATCH ≤ 30720 }
+    ensures { (k : TablesKnown tables.now n)
+        → Settled (all_triangles (survey_of tables.now.cells.now k.corners k.clearance)) write out.old out.new result }
 {
-    let mut trace = [65535u16; 1537];
+    let mut trace = [65535u16; TRACE];
     trace[0] = 0;
-    let mut scratch = [0u32; 3072];
-    settle(
-        cells,
-        across,
-        crossings,
-        twins,
-        &mut trace,
-        &mut scratch,
-        write,
-        out,
-    )
+    let mut scratch = [0u32; SCRATCH];
+    settle(tables, &mut trace, &mut scratch, write, out)
 }
 
-// The same for as many points as any survey has.
-fn draw_many(
-    cells: &[u8],
-    across: &[u16],
-    crossings: &[u16],
-    twins: &[u16],
-    n: usize,
-    write: bool,
-    out: &mut [u32],
-) -> u32
-    requires { Known cells.now across.now crossings.now twins.now n }
-    ensures { (k : Known cells.now across.now crossings.now twins.now n)
-        → Settled (all_triangles (survey_of cells.now k.corners k.clearance)) write out.old out.new result }
-{
-    let mut trace = [65535u16; 43849];
-    trace[0] = 0;
-    let mut scratch = [0u32; 30720];
-    settle(
-        cells,
-        across,
-        crossings,
-        twins,
-        &mut trace,
-        &mut scratch,
-        write,
-        out,
-    )
-}
-
-// The triangles of a survey with n points: how many there are. They are written where that is asked for and the slice has room for all of them.
+// The triangles of a survey with n points: how many there are. They are written where that is asked for and the slice has room for all of them. A survey
+// with few points gets by with a small trace and a small scratch; the others have room for as many points as any survey has.
 pub fn draw(
     cells: &[u8],
     across: &[u16],
@@ -123,8 +73,14 @@ pub fn draw(
     ensures { (k : Known cells.now across.now crossings.now twins.now n)
         → Settled (all_triangles (survey_of cells.now k.corners k.clearance)) write out.old out.new result }
 {
+    let tables = LeafTables {
+        cells,
+        across,
+        crossings,
+        twins,
+    };
     if n <= 512 {
-        return draw_few(cells, across, crossings, twins, n, write, out);
+        return draw_within::<1537, 3072>(&tables, n, write, out);
     }
-    draw_many(cells, across, crossings, twins, n, write, out)
+    draw_within::<43849, 30720>(&tables, n, write, out)
 }

@@ -15,7 +15,7 @@ use Rattle.rules.specs.Outputs.{accepted, survey_of}
 use Rattle.records.specs.Keys.{places_of}
 use Rattle.octree.proofs.Halves.{move-move}
 use Rattle.edges.specs.Tables.{place_at, OddEdge, UpperEnd, Sought}
-use Rattle.twins.specs.Risen.{Risen}
+use Rattle.twins.specs.Risen.{NoneAbove, Risen}
 use Rattle.edges.proofs.Levels.{Edged}
 use Rattle.edges.proofs.Readings.{edges_law}
 use Rattle.twins.proofs.Climbing.{upper-room, twin-none, twin-up, twin-found, else_none, else_some, even_halves, back-move}
@@ -60,14 +60,15 @@ module _ (tc tk : List ℕ) (clearance : Float) (ok : accepted tc tk clearance �
 
   module _ (a : Axis) (k l : ℕ) where
     -- an upper half: the edge above ends where the half does, and starts where its other half does
-    pub risen_upper : (w r : ℕ) → is_upper a (place_at (places_of tk) k) l ≡ true → UpperEnd tk a k l w →
-        Sought tc tk a (above a (place_at (places_of tk) k) l) (suc l) r →
-        Risen tc tk a k l r w r
-    risen_upper w r h u f = record {
-      sought = f;
-      upper = λ g. record { inside = u.inside; place = u.place ∙ sym (ap (move a (2 ^ suc l)) ((f.found g).1 ∙ is-back) ∙ two_steps) };
-      half_inside = λ g. g;
-      half_place = λ g. (f.found g).1 ∙ is-back ∙ ap (λ b. cond b (back a (2 ^ l) (at k)) (move a (2 ^ l) (at k))) (sym h);
+    pub risen_upper : (w r : ℕ) → is_upper a (place_at (places_of tk) k) l ≡ true → UpperEnd tk a k l w → r < record_count tk →
+        Sought tc tk a (above a (place_at (places_of tk) k) l) (suc l) r → Risen tc tk a k l r w r
+    risen_upper w r h u g f = record {
+      is_edge_lem = (f.found g).0;
+      inside = g;
+      place = (f.found g).1;
+      upper = record { inside = u.inside; place = u.place ∙ sym (ap (move a (2 ^ suc l)) ((f.found g).1 ∙ is-back) ∙ two_steps) };
+      half_inside = g;
+      half_place = (f.found g).1 ∙ is-back ∙ ap (λ b. cond b (back a (2 ^ l) (at k)) (move a (2 ^ l) (at k))) (sym h);
     }
       where
         is-back : above a (at k) l ≡ back a (2 ^ l) (at k)
@@ -81,22 +82,16 @@ module _ (tc tk : List ℕ) (clearance : Float) (ok : accepted tc tk clearance �
       pub start_same : place_at (places_of tk) k ≡ above a (place_at (places_of tk) k) l
       start_same = ap (λ b. cond b (back a (2 ^ l) (at k)) (at k)) (sym h)
 
-      pub risen_lower : (w v : ℕ) → UpperEnd tk a k l w → UpperEnd tk a w l v → Sought tc tk a (above a (place_at (places_of tk) k) l) (suc l) k →
-          Risen tc tk a k l k v w
-      risen_lower w v u y f = record {
-        sought = f;
-        upper = λ g. record { inside = y.inside; place = y.place ∙ ap (move a (2 ^ l)) u.place ∙ move-move a l (at k) };
-        half_inside = λ g. u.inside;
-        half_place = λ g. u.place ∙ ap (λ b. cond b (back a (2 ^ l) (at k)) (move a (2 ^ l) (at k))) (sym h);
+      pub risen_lower : (w v : ℕ) → UpperEnd tk a k l w → UpperEnd tk a w l v → k < record_count tk →
+          Sought tc tk a (above a (place_at (places_of tk) k) l) (suc l) k → Risen tc tk a k l k v w
+      risen_lower w v u y g f = record {
+        is_edge_lem = (f.found g).0;
+        inside = g;
+        place = (f.found g).1;
+        upper = record { inside = y.inside; place = y.place ∙ ap (move a (2 ^ l)) u.place ∙ move-move a l (at k) };
+        half_inside = u.inside;
+        half_place = u.place ∙ ap (λ b. cond b (back a (2 ^ l) (at k)) (move a (2 ^ l) (at k))) (sym h);
       }
-
-    pub risen_none : (w v : ℕ) → Sought tc tk a (above a (place_at (places_of tk) k) l) (suc l) (record_count tk) → Risen tc tk a k l (record_count tk) w v
-    risen_none w v f = record {
-      sought = f;
-      upper = λ g. absurd (omega arith);
-      half_inside = λ g. absurd (omega arith);
-      half_place = λ g. absurd (omega arith);
-    }
 
     -- the upper half of an edge whose lower half is an edge
     pub upper_half : (w : ℕ) → UpperEnd tk a k l w → T (is_edge (cells_of tc) a (place_at (places_of tk) k) l) →
@@ -108,22 +103,19 @@ module _ (tc tk : List ℕ) (clearance : Float) (ok : accepted tc tk clearance �
 
   -- ---- the climb
 
-  module _ (a : Axis) (k₀ l₀ k l start end half v : ℕ) (c : Climbed tc tk clearance a k₀ l₀ k l) (f : Risen tc tk a k l start end half) where
+  module _ (a : Axis) (k₀ l₀ k l v : ℕ) (c : Climbed tc tk clearance a k₀ l₀ k l) where
     -- no cell has an edge above
-    pub climb_ends : record_count tk ≤ start → v ≡ number_else (survey_of tc tk clearance) v (twin (survey_of tc tk clearance) 10 a (place_at (places_of tk) k₀) l₀)
+    pub climb_ends : NoneAbove tc tk a k l → v ≡ number_else (survey_of tc tk clearance) v (twin (survey_of tc tk clearance) 10 a (place_at (places_of tk) k₀) l₀)
     unfolding survey_of
-    climb_ends h = sym (ap (number_else s v) (sym c.same-twin ∙ twin-none s c.left a (at k) l (f.sought.none h)) ∙ else_none s v)
+    climb_ends h = sym (ap (number_else s v) (sym c.same-twin ∙ twin-none s c.left a (at k) l h) ∙ else_none s v)
 
-    module _ (h : start < record_count tk) where
-      above-edge : T (is_edge (cells_of tc) a (above a (at k) l) (suc l))
-      above-edge = (f.sought.found h).0
-
+    module _ (start end half : ℕ) (f : Risen tc tk a k l start end half) where
       above-is : is_edge (cells_of tc) a (above a (at k) l) (suc l) ≡ true
-      above-is = true→ (is_edge (cells_of tc) a (above a (at k) l) (suc l)) above-edge
+      above-is = true→ (is_edge (cells_of tc) a (above a (at k) l) (suc l)) f.is_edge_lem
 
       pub above-level : suc l ≤ 10
       unfolding survey_of
-      above-level = (edges_law tc tk clearance ok).shallow a (above a (at k) l) (suc l) above-edge
+      above-level = (edges_law tc tk clearance ok).shallow a (above a (at k) l) (suc l) f.is_edge_lem
 
       -- one turn of fuel is left
       one_left : (j : ℕ) × (c.left ≡ suc j) × (10 ≤ j + suc l)
@@ -134,7 +126,7 @@ module _ (tc tk : List ℕ) (clearance : Float) (ok : accepted tc tk clearance �
           go (suc j) e = (j, e, omega (arith, c.enough))
 
       odd-above : odd (wet_at (corners_of tk) clearance) a (at start) (suc l) ≡ odd (wet_at (corners_of tk) clearance) a (above a (at k) l) (suc l)
-      odd-above = ap (λ (x : Place). odd (wet_at (corners_of tk) clearance) a x (suc l)) (f.sought.found h).1
+      odd-above = ap (λ (x : Place). odd (wet_at (corners_of tk) clearance) a x (suc l)) f.place
 
       -- the edge above is odd: on from there
       pub climb_on : odd (wet_at (corners_of tk) clearance) a (place_at (places_of tk) start) (suc l) ≡ true → Climbed tc tk clearance a k₀ l₀ start (suc l)
@@ -143,14 +135,14 @@ module _ (tc tk : List ℕ) (clearance : Float) (ok : accepted tc tk clearance �
           let j = one_left in
           record {
             odd-edge = record {
-              inside = h;
-              is_edge_lem = subst (λ (x : Place). T (is_edge (cells_of tc) a x (suc l))) (sym (f.sought.found h).1) above-edge;
+              inside = f.inside;
+              is_edge_lem = subst (λ (x : Place). T (is_edge (cells_of tc) a x (suc l))) (sym f.place) f.is_edge_lem;
               is_odd = →true o;
             };
             left = j.0;
             enough = j.2;
             same-twin =
-                ap (λ (x : Place). twin s j.0 a x (suc l)) (f.sought.found h).1 ∙ sym (twin-up s j.0 a (at k) l above-is (sym odd-above ∙ o)) ∙
+                ap (λ (x : Place). twin s j.0 a x (suc l)) f.place ∙ sym (twin-up s j.0 a (at k) l above-is (sym odd-above ∙ o)) ∙
                 ap (λ (n : ℕ). twin s n a (at k) l) (sym j.1) ∙ c.same-twin;
           }
 
@@ -158,13 +150,13 @@ module _ (tc tk : List ℕ) (clearance : Float) (ok : accepted tc tk clearance �
       module _ (o : odd (wet_at (corners_of tk) clearance) a (place_at (places_of tk) start) (suc l) ≡ false) where
         other-is : T (is_edge (cells_of tc) a (other a (at k) l) l) × T (odd (wet_at (corners_of tk) clearance) a (other a (at k) l) l)
         unfolding survey_of
-        other-is = other-odd s (edges_law tc tk clearance ok) a (at k) l c.odd-edge.is_edge_lem c.odd-edge.is_odd above-edge (sym odd-above ∙ o)
+        other-is = other-odd s (edges_law tc tk clearance ok) a (at k) l c.odd-edge.is_edge_lem c.odd-edge.is_odd f.is_edge_lem (sym odd-above ∙ o)
 
         pub other_edge : OddEdge tc tk clearance a half l
         other_edge = record {
-          inside = f.half_inside h;
-          is_edge_lem = subst (λ (x : Place). T (is_edge (cells_of tc) a x l)) (sym (f.half_place h)) other-is.0;
-          is_odd = subst (λ (x : Place). T (odd (wet_at (corners_of tk) clearance) a x l)) (sym (f.half_place h)) other-is.1;
+          inside = f.half_inside;
+          is_edge_lem = subst (λ (x : Place). T (is_edge (cells_of tc) a x l)) (sym f.half_place) other-is.0;
+          is_odd = subst (λ (x : Place). T (odd (wet_at (corners_of tk) clearance) a x l)) (sym f.half_place) other-is.1;
         }
 
         pub climb_turns : point_of (survey_of tc tk clearance) (edge a (place_at (places_of tk) half) l) ≡
@@ -172,6 +164,6 @@ module _ (tc tk : List ℕ) (clearance : Float) (ok : accepted tc tk clearance �
         unfolding survey_of
         climb_turns =
             let j = one_left in
-            ap (λ (x : Place). point_of s (edge a x l)) (f.half_place h) ∙ sym (else_some s v a (other a (at k) l) l) ∙
+            ap (λ (x : Place). point_of s (edge a x l)) f.half_place ∙ sym (else_some s v a (other a (at k) l) l) ∙
             ap (number_else s v) (sym (twin-found s j.0 a (at k) l above-is (sym odd-above ∙ o)) ∙
             ap (λ (n : ℕ). twin s n a (at k) l) (sym j.1) ∙ c.same-twin)

@@ -51,7 +51,8 @@ all-taken-down tc tk clearance ok i h =
     taken-down (get_or fs i nan) boxed.held boxed.inside
 
 -- the numbers given are equal, and where they are 0 the survey is drawable
-module _ (tc tk : List ℕ) (clearance : Float) (p q : Place) (ps : List Float) (ts : List ℕ) (own : T (not (beyond_box p))) (other : T (not (beyond_box q))) where
+module _ (tc tk : List ℕ) (clearance : Float) (p q : Place) (ps : List Float) (ts : List ℕ) (own : T (not (beyond_box p)))
+    (other : T (not (beyond_box q))) where
   abbrev number : Place → ℕ
   number r = first_of (volume_checks tc tk clearance r ++ slice_checks tc tk clearance ps ts)
 

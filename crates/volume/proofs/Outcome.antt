@@ -13,6 +13,7 @@ use Rattle.base.specs.Grid.{Place}
 use Rattle.rules.specs.Steps.{all_triangles}
 use Rattle.rules.specs.Outputs.{first_of, table_checks, survey_checks, checks, drawing_checks, drawable, survey_of, point_floats, slice_checks, Drawing, draw}
 use Rattle.rules.specs.Water.{sixfold, beyond_box, volume_checks, Reckoning, volume}
+use Rattle.rules.specs.Resounding.{unreckoned}
 use Rattle.rules.specs.declared.Drawn.{Drawn}
 use Rattle.rules.specs.declared.Water.{Water}
 use Rattle.octree.proofs.Accepted.{first_append, first-none, first_unlike, refused-before, refused_last, refused_never}
@@ -22,18 +23,21 @@ use Rattle.volume.specs.Reckons.{Reckons}
 
 -- ---- the checks of drawing, and then 13
 
-module _ (tc tk : List ℕ) (clearance : Float) (reference : Place) (n : ℕ) (n-is : n ≡ first_of (drawing_checks tc tk clearance)) where
-  pub refused-earlier : (n ≡ 0 → ⊥) → n ≡ first_of (volume_checks tc tk clearance reference)
+module _ (tc tk : List ℕ) (clearance : Float) (reference : Place) where
+  pub refused-earlier : (n : ℕ) → n ≡ first_of (drawing_checks tc tk clearance) → (n ≡ 0 → ⊥) → n ≡ first_of (volume_checks tc tk clearance reference)
   unfolding volume_checks
-  refused-earlier = refused-before (drawing_checks tc tk clearance) (unfold drawing_checks checks survey_checks table_checks in tt) 13 (beyond_box reference) n n-is
+  refused-earlier = refused-before (drawing_checks tc tk clearance) (unfold drawing_checks checks survey_checks table_checks in tt) 13 (beyond_box reference)
 
-  pub refused-beyond : n ≡ 0 → beyond_box reference ≡ true → 13 ≡ first_of (volume_checks tc tk clearance reference)
-  unfolding volume_checks
-  refused-beyond = refused_last (drawing_checks tc tk clearance) (unfold drawing_checks checks survey_checks table_checks in tt) 13 (beyond_box reference) n n-is
+  module _ (pass : 0 ≡ first_of (drawing_checks tc tk clearance)) where
+    pub refused-beyond : beyond_box reference ≡ true → 13 ≡ first_of (volume_checks tc tk clearance reference)
+    unfolding volume_checks
+    refused-beyond =
+        refused_last (drawing_checks tc tk clearance) (unfold drawing_checks checks survey_checks table_checks in tt) 13 (beyond_box reference) 0 pass refl
 
-  pub refused-not : n ≡ 0 → beyond_box reference ≡ false → 0 ≡ first_of (volume_checks tc tk clearance reference)
-  unfolding volume_checks
-  refused-not = refused_never (drawing_checks tc tk clearance) (unfold drawing_checks checks survey_checks table_checks in tt) 13 (beyond_box reference) n n-is
+    pub refused-not : beyond_box reference ≡ false → 0 ≡ first_of (volume_checks tc tk clearance reference)
+    unfolding volume_checks
+    refused-not =
+        refused_never (drawing_checks tc tk clearance) (unfold drawing_checks checks survey_checks table_checks in tt) 13 (beyond_box reference) 0 pass refl
 
 -- ---- what the call gives
 
@@ -76,11 +80,11 @@ module _ (tc tk : List ℕ) (clearance : Float) (reference : Place) (ps : List F
 
   -- ---- no check before the slices' applies: as for a drawing
 
-  module _ (n : ℕ) (is : n ≡ first_of (volume_checks tc tk clearance reference)) (zero : n ≡ 0) where
+  module _ (pass : 0 ≡ first_of (volume_checks tc tk clearance reference)) where
     both : (first_of (drawing_checks tc tk clearance) ≡ 0) × (first_of ((13, beyond_box reference) ∷ []) ≡ 0)
     both =
         first-none (drawing_checks tc tk clearance) ((13, beyond_box reference) ∷ []) (unfold drawing_checks checks survey_checks table_checks in tt)
-        (unfold volume_checks in sym is ∙ zero)
+        (unfold volume_checks in sym pass)
 
     pub can_draw : drawable tc tk clearance ≡ true
     unfolding drawable
@@ -97,8 +101,9 @@ module _ (tc tk : List ℕ) (clearance : Float) (reference : Place) (ps : List F
     unfolding draw
     as_drawn =
         let slices = first_of (slice_checks tc tk clearance ps ts) in
-        in_order ∙ ap (λ (b : Bool). cond b slices first) (eq-eqb first 0 (sym is ∙ zero))
-        ∙ sym (first_append (drawing_checks tc tk clearance) (slice_checks tc tk clearance ps ts) (unfold drawing_checks checks survey_checks table_checks in tt)
+        in_order ∙ ap (λ (b : Bool). cond b slices first) (eq-eqb first 0 (sym pass))
+        ∙ sym (first_append (drawing_checks tc tk clearance) (slice_checks tc tk clearance ps ts)
+        (unfold drawing_checks checks survey_checks table_checks in tt)
         ∙ ap (λ (b : Bool). cond b slices (first_of (drawing_checks tc tk clearance))) (eq-eqb (first_of (drawing_checks tc tk clearance)) 0 both.0))
 
     never : eqb (draw tc tk clearance ps ts).result.number 13 ≡ false
@@ -132,12 +137,9 @@ module _ (tc tk : List ℕ) (clearance : Float) (reference : Place) (ps : List F
     same_number =
         in_order ∙ ap (λ (b : Bool). cond b (first_of (slice_checks tc tk clearance ps ts)) first) (ne_eqb first 0 (λ z. some (is ∙ z))) ∙ sym is
 
-    abbrev nothing : Reckoning
-    nothing = record { result = record { number = n; points = 0; triangles = 0; sixfold = pos 0 }; points = ps; triangles = ts }
-
     -- a check before 13: as a drawing that is refused
     earlier : (b : Bool) → Draws (draw tc tk clearance ps ts) (record { number = n; points = 0; triangles = 0 }) ps ts
-        → given (draw tc tk clearance ps ts) n b false ≡ nothing
+        → given (draw tc tk clearance ps ts) n b false ≡ unreckoned n ps ts
     earlier true drew = refl
     earlier false drew = sym (λ i. record {
       result = record { number = n; points = (drew.result_is i).points; triangles = (drew.result_is i).triangles; sixfold = pos 0 };
@@ -147,16 +149,17 @@ module _ (tc tk : List ℕ) (clearance : Float) (reference : Place) (ps : List F
 
     -- by the first number of drawing's checks, and whether 13 applies
     by-checks : (k : ℕ) (b : Bool) → k ≡ first_of (drawing_checks tc tk clearance) → n ≡ cond (eqb k 0) (cond b 13 0) k
-        → given (draw tc tk clearance ps ts) n (eqb n 13) false ≡ nothing
+        → given (draw tc tk clearance ps ts) n (eqb n 13) false ≡ unreckoned n ps ts
     by-checks k b k-is e = go (eqb k 0) refl b e
       where
-        go : (t : Bool) → eqb k 0 ≡ t → (b : Bool) → n ≡ cond t (cond b 13 0) k → given (draw tc tk clearance ps ts) n (eqb n 13) false ≡ nothing
+        go : (t : Bool) → eqb k 0 ≡ t → (b : Bool) → n ≡ cond t (cond b 13 0) k
+            → given (draw tc tk clearance ps ts) n (eqb n 13) false ≡ unreckoned n ps ts
         go true z true e = ap (λ (b : Bool). given (draw tc tk clearance ps ts) n b false) (eq-eqb n 13 e)
         go true z false e = absurd (some e)
         go false z b e = earlier (eqb n 13) (refused tc tk clearance ps ts n (e ∙ k-is) some)
 
-    nothing_given : volume tc tk clearance reference ps ts ≡ nothing
-    nothing_given =
+    pub not_reckoned : volume tc tk clearance reference ps ts ≡ unreckoned n ps ts
+    not_reckoned =
         by_number ∙ (λ i. given (draw tc tk clearance ps ts) (same_number i) (eqb (same_number i) 13) (eqb (same_number i) 0))
         ∙ ap (given (draw tc tk clearance ps ts) n (eqb n 13)) (ne_eqb n 0 some)
         ∙ by-checks (first_of (drawing_checks tc tk clearance)) (beyond_box reference) refl (is ∙ parts)
@@ -166,10 +169,3 @@ module _ (tc tk : List ℕ) (clearance : Float) (reference : Place) (ps : List F
         parts =
             unfold volume_checks in
             first_append (drawing_checks tc tk clearance) ((13, beyond_box reference) ∷ []) (unfold drawing_checks checks survey_checks table_checks in tt)
-
-    pub turned_away : Reckons (volume tc tk clearance reference ps ts) (record { number = n; points = 0; triangles = 0; sixfold = pos 0 }) ps ts
-    turned_away = record {
-      result_is = sym (ap (λ (w : Reckoning). w.result) nothing_given);
-      points_are = sym (ap (λ (w : Reckoning). w.points) nothing_given);
-      triangles_are = sym (ap (λ (w : Reckoning). w.triangles) nothing_given);
-    }

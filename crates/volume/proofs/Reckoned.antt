@@ -1,5 +1,6 @@
 -- The sum over what a drawing leaves in the slices is that of the rules, and the same from every reference of the box.
 -- Assumes nothing.
+use Rattle.std.specs.Prelude.{Result, Ok, Err, IsErrAnd}
 use Prim.Native.Nat.{ℕ}
 use mathlib.Core.Path.{◌≡◌, refl, sym, ap, ◌∙◌, subst}
 use mathlib.Core.Bool.{true, false, not}
@@ -11,21 +12,25 @@ use lib.Ieee.{Float}
 use borrow.Author.Tests.{eq-eqb, ne_eqb}
 use Rattle.base.specs.Grid.{Place}
 use Rattle.base.proofs.Tests.{→false}
+use Rattle.rules.specs.Refusals.{refusal_number}
 use Rattle.rules.specs.Edges.{point_edges}
 use Rattle.rules.specs.Steps.{all_triangles}
 use Rattle.rules.specs.Outputs.{first_of, accepted, drawable, survey_of, point_floats, Drawing, draw}
 use Rattle.rules.specs.Closing.{triangles_in}
-use Rattle.rules.specs.Water.{sixfold, beyond_box, volume_checks, volume, AnyReference}
+use Rattle.rules.specs.Water.{sixfold, beyond_box, volume_checks, Reckoning, volume, AnyReference}
+use Rattle.rules.specs.Resounding.{unreckoned}
 use Rattle.rules.specs.declared.Drawn.{Drawn}
 use Rattle.rules.specs.declared.Water.{Water}
+use Rattle.rules.specs.declared.refusal.Refusal.{Refusal}
 use Rattle.octree.proofs.Accepted.{drawable→}
+use Rattle.amendments.proofs.Refusals.{some_number}
 use Rattle.closing.proofs.Closing.{closes}
 use Rattle.water.specs.Corners.{Summable}
 use Rattle.drawing.specs.Draws.{Draws}
 use Rattle.drawing.proofs.Drawn.{whole, drawn-is, drawn-fits}
 use Rattle.drawing.proofs.Outcome.{drawn-closed}
-use Rattle.volume.specs.Reckons.{sixfold_from, Reckons, ClosedAnywhere}
-use Rattle.volume.proofs.Outcome.{with_volume, total, inside, reckoned, turned_away}
+use Rattle.volume.specs.Reckons.{sixfold_from, water_of, Reckons, ClosedAnywhere}
+use Rattle.volume.proofs.Outcome.{with_volume, total, inside, reckoned, not_reckoned}
 use Rattle.volume.proofs.References.{same_sum}
 use Rattle.volume.proofs.Slices.{all_below, summable, slices_sum}
 
@@ -72,27 +77,41 @@ module _ (tc tk : List ℕ) (clearance : Float) (ps : List Float) (ts : List ℕ
         → v ≡ sixfold_from q tc tk clearance
     from-any q own box = total_is ∙ unfold AnyReference in any_reference tc tk clearance can_draw reference q own box
 
-    pub drawn_promised : (n : ℕ) → n ≡ first_of (volume_checks tc tk clearance reference) → n ≡ 0
-        → Promised tc tk clearance ps ts reference points triangles (with_volume r v)
-    drawn_promised n n-is n-zero =
-        let reckons = reckoned tc tk clearance reference ps ts n n-is n-zero r points triangles v true drew (eq-eqb r.number 0 zero) total_is in
-        let own = →false (inside tc tk clearance reference ps ts n n-is n-zero) in
+    pub drawn_promised : 0 ≡ first_of (volume_checks tc tk clearance reference) → Promised tc tk clearance ps ts reference points triangles (with_volume r v)
+    drawn_promised pass =
+        let reckons = reckoned tc tk clearance reference ps ts pass r points triangles v true drew (eq-eqb r.number 0 zero) total_is in
+        let own = →false (inside tc tk clearance reference ps ts pass) in
         (reckons, (drawn-closed tc tk clearance ps ts r points triangles drew, (λ z q box. from-any q own box)))
 
 -- ---- what was not
 
 -- the slices are too short
-pub short_promised : (tc tk : List ℕ) (clearance : Float) (ps : List Float) (ts : List ℕ) (reference : Place) (n : ℕ)
-    → n ≡ first_of (volume_checks tc tk clearance reference) → n ≡ 0 → (r : Drawn) (points : List Float) (triangles : List ℕ)
+pub short_promised : (tc tk : List ℕ) (clearance : Float) (ps : List Float) (ts : List ℕ) (reference : Place)
+    → 0 ≡ first_of (volume_checks tc tk clearance reference) → (r : Drawn) (points : List Float) (triangles : List ℕ)
     → Draws (draw tc tk clearance ps ts) r points triangles → (r.number ≡ 0 → ⊥)
     → Promised tc tk clearance ps ts reference points triangles (with_volume r (pos 0))
-short_promised tc tk clearance ps ts reference n is zero r points triangles drew some =
-    let reckons = reckoned tc tk clearance reference ps ts n is zero r points triangles (pos 0) false drew (ne_eqb r.number 0 some) refl in
+short_promised tc tk clearance ps ts reference pass r points triangles drew some =
+    let reckons = reckoned tc tk clearance reference ps ts pass r points triangles (pos 0) false drew (ne_eqb r.number 0 some) refl in
     (reckons, ((λ z. absurd (some z)), (λ z. absurd (some z))))
 
--- a check before the slices' applies
-pub refused_promised : (tc tk : List ℕ) (clearance : Float) (ps : List Float) (ts : List ℕ) (reference : Place) (n : ℕ)
-    → n ≡ first_of (volume_checks tc tk clearance reference) → (n ≡ 0 → ⊥)
-    → Promised tc tk clearance ps ts reference ps ts (record { number = n; points = 0; triangles = 0; sixfold = pos 0 })
-refused_promised tc tk clearance ps ts reference n is some =
-    (turned_away tc tk clearance reference ps ts n is some, ((λ z. absurd (some z)), (λ z. absurd (some z))))
+-- a refusal is passed on, and nothing is reckoned
+pub passed_on : (tc tk : List ℕ) (clearance : Float) (ps : List Float) (ts : List ℕ) (k : Reckoning) (w : Result Water Refusal) (e : Refusal)
+    → IsErrAnd w (λ d. d ≡ e) → k ≡ unreckoned (refusal_number e) ps ts → Reckons k (water_of w) ps ts × ClosedAnywhere tc tk clearance (water_of w) ps ts
+passed_on tc tk clearance ps ts k (Ok w) e on is = absurd on
+passed_on tc tk clearance ps ts k (Err d) e on is =
+    let given = is ∙ ap (λ (r : Refusal). unreckoned (refusal_number r) ps ts) (sym on) in (
+      record {
+        result_is = sym (ap (λ (k : Reckoning). k.result) given);
+        points_are = sym (ap (λ (k : Reckoning). k.points) given);
+        triangles_are = sym (ap (λ (k : Reckoning). k.triangles) given);
+      },
+      ((λ z. absurd (some_number d z)), (λ z. absurd (some_number d z))),
+    )
+
+-- so it is where a check before the slices' applies
+pub refused_promised : (tc tk : List ℕ) (clearance : Float) (ps : List Float) (ts : List ℕ) (reference : Place) (w : Result Water Refusal) (e : Refusal)
+    → IsErrAnd w (λ d. d ≡ e) → refusal_number e ≡ first_of (volume_checks tc tk clearance reference)
+    → Promised tc tk clearance ps ts reference ps ts (water_of w)
+refused_promised tc tk clearance ps ts reference w e on is =
+    passed_on tc tk clearance ps ts (volume tc tk clearance reference ps ts) w e on
+    (not_reckoned tc tk clearance reference ps ts (refusal_number e) is (some_number e))

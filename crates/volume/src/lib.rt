@@ -1,26 +1,27 @@
-// The call for the volume: a drawing, with check 13 before those of the slices, and the sum over what then stands in them. Uses checks, amendments, drawing and
-// water.
+// The call for the volume: a drawing, with check 13 before those of the slices, and the sum over what then stands in them. Uses records, checks, drawing
+// and water.
 #![tactic(auto)]
 
-ghost use Rattle.std.specs.Prelude.{◌≡◌, not, T, pos, length};
+ghost use Rattle.std.specs.Prelude.{◌≡◌, OnOk, not, T, pos, length};
 ghost use Rattle.base.specs.Grid.{Place};
-ghost use Rattle.rules.specs.Outputs.{first_of, table_checks};
+ghost use Rattle.rules.specs.Refusals.{refusal_number, outcome};
+ghost use Rattle.rules.specs.Outputs.{first_of};
 ghost use Rattle.rules.specs.Closing.{ClosedIn};
 ghost use Rattle.rules.specs.Water.{beyond_box, volume_checks, volume};
 ghost use Rattle.rules.specs.Resounding.{amended, volume_amended};
-ghost use Rattle.checks.specs.Tables.{Tables};
 ghost use Rattle.edges.specs.Tables.{Wets};
 ghost use Rattle.water.specs.Corners.{reference_place};
-ghost use Rattle.volume.specs.Reckons.{drawn_part, sixfold_from, ClosedAnywhere, Reckons};
+ghost use Rattle.volume.specs.Reckons.{drawn_part, sixfold_from, water_of, ClosedAnywhere, Reckons};
 
-use rules::{Drawn, Water};
+use checks::Passed;
+use rules::{Drawn, Refusal, Water};
 use water::Reference;
 
 // Check 13: a coordinate of the reference is above 1,024.
 fn beyond(reference: Reference) -> bool
     ensures { result ≡ beyond_box (reference_place reference) }
 {
-    reference.x > 1024 || (reference.y > 1024 || reference.z > 1024)
+    reference.x > 1024 || reference.y > 1024 || reference.z > 1024
 }
 
 // What is asked besides the survey: at which clearance it is drawn, and from where the volume is reckoned.
@@ -30,30 +31,27 @@ struct Asked {
     reference: Reference,
 }
 
-// The checks of this call after those of the tables and before those of the slices: those of drawing, then 13. The number of the first that applies, or 0: then
+// The checks of this call after those of the tables and before those of the slices: those of drawing, then 13. The first that applies refuses; where none does,
 // it is known which corners are wet.
-fn refusal(cells: &[u8], corners: &[u8], asked: Asked, wets: &mut [u8]) -> u32
-    requires corners_value { first_of (table_checks cells.now corners.now) ≡ 0 }
-    requires wets_len { length wets.old ≡ 4872 }
-    ensures value { result ≡ first_of (volume_checks cells.now corners.now asked.clearance (reference_place asked.reference)) }
-    ensures wets { result ≡ 0 → Wets corners.now asked.clearance wets.new }
+fn refusal(passed: Passed, asked: Asked, wets: &mut [u8]) -> Result<(), Refusal>
+    requires { length wets.old ≡ 4872 }
+    ensures value { outcome result ≡ first_of (volume_checks passed.entry.cells.now passed.entry.corners.now asked.clearance
+        (reference_place asked.reference)) }
+    ensures wets { OnOk result (Wets passed.entry.corners.now asked.clearance wets.new) }
 {
-    let number = drawing::refusal(cells, corners, asked.clearance, wets);
-    if number != 0 {
-        return number;
-    }
+    drawing::refusal(passed.cells, passed.corners, asked.clearance, wets)?;
     if beyond(asked.reference) {
-        return 13;
+        return Err(Refusal::Reference);
     }
-    0
+    Ok(())
 }
 
 // A refusal: nothing is drawn, and there is no volume.
-fn refused(number: u32) -> Water
-    ensures { result ≡ record { number = number; points = 0; triangles = 0; sixfold = pos 0 } }
+fn refused(refusal: Refusal) -> Water
+    ensures { result ≡ record { number = refusal_number refusal; points = 0; triangles = 0; sixfold = pos 0 } }
 {
     Water {
-        number: number,
+        number: u32::from(refusal),
         points: 0,
         triangles: 0,
         sixfold: 0,
@@ -64,77 +62,80 @@ fn refused(number: u32) -> Water
 fn with_volume(drawn: Drawn, sixfold: i64) -> Water
     ensures { result ≡ record { number = drawn.number; points = drawn.points; triangles = drawn.triangles; sixfold = sixfold } }
 {
+    let Drawn {
+        number,
+        points,
+        triangles,
+    } = drawn;
     Water {
-        number: drawn.number,
-        points: drawn.points,
-        triangles: drawn.triangles,
-        sixfold: sixfold,
+        number,
+        points,
+        triangles,
+        sixfold,
     }
 }
 
-// Reckons a survey whose tables checks 1 to 6 pass, with this corner table in force.
+// Reckons a survey with this corner table in force.
 fn reckon_in_force(
-    cells: &[u8],
-    corners: &[u8],
+    passed: Passed,
     asked: Asked,
-    laid: &[u64],
-    octants: &[u16],
     points: &mut [f32],
     triangles: &mut [u32],
-) -> Water
-    requires { Tables cells.now corners.now laid.now octants.now }
-    ensures reckons { Reckons (volume cells.now corners.now asked.clearance (reference_place asked.reference)
-        points.old triangles.old) result points.new triangles.new }
-    ensures closed_anywhere { ClosedAnywhere cells.now corners.now asked.clearance result points.new triangles.new }
+) -> Result<Water, Refusal>
+    ensures { Reckons (volume passed.entry.cells.now passed.entry.corners.now asked.clearance
+        (reference_place asked.reference) points.old triangles.old) (water_of result) points.new triangles.new
+        × ClosedAnywhere passed.entry.cells.now passed.entry.corners.now asked.clearance
+        (water_of result) points.new triangles.new }
 {
     let mut wets = [0u8; 4872];
-    let number = refusal(cells, corners, asked, &mut wets);
-    if number != 0 {
-        return refused(number);
-    }
-    let drawn = drawing::draw_drawable(
-        cells,
-        corners,
-        asked.clearance,
-        laid,
-        octants,
-        &wets,
-        points,
-        triangles,
-    );
+    refusal(passed, asked, &mut wets)?;
+    let drawn = drawing::draw_drawable(passed, asked.clearance, &wets, points, triangles);
     if drawn.number != 0 {
-        return with_volume(drawn, 0);
+        return Ok(with_volume(drawn, 0));
     }
-    with_volume(
-        drawn,
-        water::sum(points, triangles, drawn.triangles, asked.reference),
-    )
+    let sixfold = water::sum(points, triangles, drawn.triangles, asked.reference);
+    Ok(with_volume(drawn, sixfold))
 }
 
 // The same where there are amendments: 14 and 15, then the volume with the corner table as amended.
 fn reckon_amended(
+    passed: Passed,
+    amendments: &[u8],
+    asked: Asked,
+    points: &mut [f32],
+    triangles: &mut [u32],
+) -> Result<Water, Refusal>
+    ensures { Reckons (volume_amended passed.entry.cells.now passed.entry.corners.now amendments.now asked.clearance
+        (reference_place asked.reference) points.old triangles.old) (water_of result) points.new triangles.new
+        × ClosedAnywhere passed.entry.cells.now (amended passed.entry.corners.now amendments.now) asked.clearance
+        (water_of result) points.new triangles.new }
+{
+    let mut table = [0u8; records::LIMIT];
+    let amended = passed.amended(amendments, &mut table)?;
+    reckon_in_force(amended, asked, points, triangles)
+}
+
+// Reckons a survey, as amended, or says which check refuses it before anything is drawn.
+fn reckon_checked(
     cells: &[u8],
     corners: &[u8],
     amendments: &[u8],
     asked: Asked,
-    laid: &[u64],
-    octants: &[u16],
     points: &mut [f32],
     triangles: &mut [u32],
-) -> Water
-    requires { Tables cells.now corners.now laid.now octants.now }
-    ensures reckons { Reckons (volume_amended cells.now corners.now amendments.now asked.clearance
-        (reference_place asked.reference) points.old triangles.old) result points.new triangles.new }
-    ensures closed_anywhere { ClosedAnywhere cells.now (amended corners.now amendments.now) asked.clearance result
-        points.new triangles.new }
+) -> Result<Water, Refusal>
+    ensures { Reckons (volume_amended cells.now corners.now amendments.now asked.clearance
+        (reference_place asked.reference) points.old triangles.old) (water_of result) points.new triangles.new
+        × ClosedAnywhere cells.now (amended corners.now amendments.now) asked.clearance
+        (water_of result) points.new triangles.new }
 {
-    let mut table = [0u8; records::LIMIT];
-    let number = amendments::refusal(cells, corners, amendments, &mut table);
-    if number != 0 {
-        return refused(number);
+    let mut laid = [0u64; 2049];
+    let mut octants = [0u16; 16392];
+    let passed = Passed::read(cells, corners, &mut laid, &mut octants)?;
+    if amendments.is_empty() {
+        return reckon_in_force(passed, asked, points, triangles);
     }
-    let n = corners.len();
-    reckon_in_force(cells, &table[..n], asked, laid, octants, points, triangles)
+    reckon_amended(passed, amendments, asked, points, triangles)
 }
 
 // Draws the surface of a survey, as amended, at a clearance, and gives six times the volume inside: document 02, requests 4 and 6. For every input, the result
@@ -157,19 +158,11 @@ pub fn reckon(
         → result.sixfold ≡ sixfold_from q cells.now (amended corners.now amendments.now) clearance }
 {
     let asked = Asked {
-        clearance: clearance,
-        reference: reference,
+        clearance,
+        reference,
     };
-    let mut laid = [0u64; 2049];
-    let mut octants = [0u16; 16392];
-    let number = checks::read(cells, corners, &mut laid, &mut octants);
-    if number != 0 {
-        return refused(number);
+    match reckon_checked(cells, corners, amendments, asked, points, triangles) {
+        Ok(water) => water,
+        Err(refusal) => refused(refusal),
     }
-    if amendments.len() == 0 {
-        return reckon_in_force(cells, corners, asked, &laid, &octants, points, triangles);
-    }
-    reckon_amended(
-        cells, corners, amendments, asked, &laid, &octants, points, triangles,
-    )
 }

@@ -83,12 +83,9 @@ pub fn sum(points: &[f32], triangles: &[u32], m: u32, reference: Reference) -> i
     requires reference_in_box { T (not (beyond_box (reference_place reference))) }
     ensures { result ≡ sixfold (reference_place reference) points.now (triangles_in m triangles.now) }
 {
-    let count = m as usize;
-    let mut total: i64 = 0;
-    let mut k: usize = 0;
-    while k < count {
+    let mut total = 0;
+    for k in 0..m as usize {
         total += triangle(points, triangles, 3 * k, reference);
-        k += 1;
     }
     total
 }

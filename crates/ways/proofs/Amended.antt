@@ -14,7 +14,7 @@ use Rattle.rules.specs.declared.Passage.{Passage}
 use Rattle.octree.proofs.Accepted.{numbered, first_unlike}
 use Rattle.amendments.proofs.Calls.{refused-by-tables, refused-by_amendments, called, none-amended}
 use Rattle.ways.specs.Shows.{Shows}
-use Rattle.ways.proofs.Call.{Call, passage_of, shown, count, graph_of, earlier, within, answer, answer_amended}
+use Rattle.ways.proofs.Call.{Call, passage_of, shown, count, graph_of, earlier, over, within, answer, answer_amended}
 use Rattle.ways.proofs.Checks.{not_twenty}
 use Rattle.ways.proofs.Marks.{size_is}
 use Rattle.ways.proofs.Outcome.{asked, refused-before, refused-after, passed-before}
@@ -82,16 +82,23 @@ module _ (call : Call) (amendments : List ℕ) where
       nothing n (unfold passage_amended in refused-by_amendments call.cells call.corners amendments refusal (λ t. answer (within call t)) n is some)
 
   module _ {r : Passage} {way work : List ℕ} where
-    pub in_force : first_of (amendment_checks call.cells call.corners amendments) ≡ 0 → (table : List ℕ) → table ≡ amended call.corners amendments →
-        Shows (answer (within call table)) r way work → Shows (answer_amended call amendments) r way work
-    in_force pass table e s =
+    -- a survey that is read is the one that was lent
+    pub as_lent : {cells corners : List ℕ} → cells ≡ call.cells → corners ≡ call.corners →
+        Shows (answer_amended (over call cells corners) amendments) r way work → Shows (answer_amended call amendments) r way work
+    as_lent f e s = subst (λ (d : Shown). Shows d r way work) (λ i. answer_amended (over call (f i) (e i)) amendments) s
+
+    pub in_force : first_of (amendment_checks call.cells call.corners amendments) ≡ 0 →
+        {cells table : List ℕ} → cells ≡ call.cells → table ≡ amended call.corners amendments →
+        Shows (answer (over call cells table)) r way work → Shows (answer_amended call amendments) r way work
+    in_force pass f e s =
         let is : answer_amended call amendments ≡ answer (within call (amended call.corners amendments)) =
         unfold passage_amended in called call.cells call.corners amendments refusal (λ t. answer (within call t)) pass in
-        subst (λ (d : Shown). Shows d r way work) (ap (λ (t : List ℕ). answer (within call t)) e ∙ sym is) s
+        subst (λ (d : Shown). Shows d r way work) ((λ i. answer (over call (f i) (e i))) ∙ sym is) s
 
-    pub without : amendments ≡ [] → first_of (table_checks call.cells call.corners) ≡ 0 → Shows (answer call) r way work →
-        Shows (answer_amended call amendments) r way work
-    without none pass s =
+    pub without : amendments ≡ [] → first_of (table_checks call.cells call.corners) ≡ 0 →
+        {cells corners : List ℕ} → cells ≡ call.cells → corners ≡ call.corners →
+        Shows (answer (over call cells corners)) r way work → Shows (answer_amended call amendments) r way work
+    without none pass f e s =
         let is : answer_amended call [] ≡ answer call =
         unfold passage_amended in none-amended call.cells call.corners refusal (λ t. answer (within call t)) pass in
-        subst (λ (d : Shown). Shows d r way work) (sym (ap (answer_amended call) none ∙ is)) s
+        subst (λ (d : Shown). Shows d r way work) ((λ i. answer (over call (f i) (e i))) ∙ sym (ap (answer_amended call) none ∙ is)) s

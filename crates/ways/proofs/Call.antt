@@ -61,9 +61,12 @@ earlier call = checks call.cells call.corners call.clearance
 abbrev pub answer : Call → Shown
 answer call = passage call.cells call.corners call.clearance call.question.start call.question.end call.question.way call.question.work
 
--- the same call in another corner table
+-- the same call in another survey, and in another corner table
+abbrev pub over : Call → List ℕ → List ℕ → Call
+over call cells corners = record { cells = cells; corners = corners; clearance = call.clearance; question = call.question }
+
 abbrev pub within : Call → List ℕ → Call
-within call table = record { cells = call.cells; corners = table; clearance = call.clearance; question = call.question }
+within call table = over call call.cells table
 
 abbrev pub answer_amended : Call → List ℕ → Shown
 answer_amended call amendments =

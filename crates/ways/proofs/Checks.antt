@@ -5,7 +5,7 @@ use mathlib.Core.Logic.{inl, inr}
 use mathlib.Core.Bool.{Bool, true, false, not, ◌&&◌, ◌||◌}
 use native.Mathlib.Omega.{arith}
 use lib.Dec.{T, ltb, ltb→lt}
-use borrow.Author.Tests.{lt-ltb, le-ltb, ltb-false, not-false}
+use borrow.Author.Tests.{ltb-false, not-false}
 use Rattle.base.proofs.Tests.{and→, eq→eqb, not_both}
 use Rattle.octree.proofs.Accepted.{none_applies, first_unlike}
 use Rattle.rules.specs.Outputs.{first_of}
@@ -20,22 +20,6 @@ or_true true = refl
 or_true false = refl
 
 module _ (count start end way work : ℕ) where
-  pub no_start : count ≤ start → 18 ≡ first_of (asked_checks count start end way work)
-  no_start h = rw (le-ltb start count h)
-
-  pub no_end : count ≤ end → 18 ≡ first_of (asked_checks count start end way work)
-  no_end h = rw (le-ltb end count h, and-false)
-
-  module _ (s : start < count) (e : end < count) where
-    pub way_short : way < count → 19 ≡ first_of (asked_checks count start end way work)
-    way_short h = rw (lt-ltb start count s, lt-ltb end count e, lt-ltb way count h)
-
-    pub work_short : work < count → 19 ≡ first_of (asked_checks count start end way work)
-    work_short h = rw (lt-ltb start count s, lt-ltb end count e, lt-ltb work count h, or_true)
-
-    pub none_short : count ≤ way → count ≤ work → 0 ≡ first_of (asked_checks count start end way work)
-    none_short g h = rw (lt-ltb start count s, lt-ltb end count e, le-ltb way count g, le-ltb work count h)
-
   -- what is known where neither applies
   pub neither : first_of (asked_checks count start end way work) ≡ 0 → (start < count) × (end < count) × (count ≤ way) × (count ≤ work)
   neither z =

@@ -7,12 +7,11 @@ use native.Mathlib.Omega.{arith}
 use lib.Dec.{leb, eqb}
 use lib.Ieee.{Float}
 use lib.ListN.{get_or, set}
-use borrow.Author.Tests.{le-leb, lt-leb, eq-eqb, ne_eqb, leb-true, leb-false, eqb-true, eqb-false}
+use borrow.Author.Tests.{le-leb, eq-eqb, leb-true, leb-false, eqb-true, eqb-false}
 use Rattle.rules.specs.Survey.{record_count}
 use Rattle.edges.proofs.Readings.{no_refusal}
 use Rattle.edges.proofs.Surveyed.{corners-few}
 use Rattle.ways.specs.Linked.{is_step, linked_at}
-use Rattle.ways.proofs.Checks.{and-false}
 use Rattle.ways.proofs.Linking.{LinkedTo, link_none, link_next}
 use Rattle.ways.proofs.Joined.{lowest_from, far_from, Step, Filled, slot_end, step_functional, step_injective}
 
@@ -29,24 +28,6 @@ module _ (wets slots : List ℕ) (n k : ℕ) (t : List ℕ) where
 
   not_step : is_step wets slots n k ≡ false → t ≡ linked_at wets slots n k t
   not_step e = sym (ap (λ (b : Bool). cond b (set (set t (6 * k + (3 + n)) far) (6 * far + n) k) t) e)
-
-  no_edge : 10 < level → is_step wets slots n k ≡ false
-  no_edge h = rw (lt-leb level 10 h)
-
-  dry_start : (get_or wets k 0 ≡ 1 → ⊥) → is_step wets slots n k ≡ false
-  dry_start h = rw (ne_eqb (get_or wets k 0) 1 h) (and-false (leb level 10))
-
-  dry_end : (get_or wets far 0 ≡ 1 → ⊥) → is_step wets slots n k ≡ false
-  dry_end h = rw (ne_eqb (get_or wets far 0) 1 h) (ap (λ (b : Bool). leb level 10 && b) (and-false (eqb (get_or wets k 0) 1)) ∙ and-false (leb level 10))
-
-  pub past_none : 10 < level → t ≡ linked_at wets slots n k t
-  past_none h = not_step (no_edge h)
-
-  pub past_dry : (get_or wets k 0 ≡ 1 → ⊥) → t ≡ linked_at wets slots n k t
-  past_dry h = not_step (dry_start h)
-
-  pub past_dry_end : (e : ℕ) → e ≡ far → (get_or wets e 0 ≡ 1 → ⊥) → t ≡ linked_at wets slots n k t
-  past_dry_end e q h = not_step (dry_end (λ z. h (ap (λ (j : ℕ). get_or wets j 0) q ∙ z)))
 
   pub both_wet : (e : ℕ) → e ≡ far → level ≤ 10 → get_or wets k 0 ≡ 1 → get_or wets e 0 ≡ 1 →
       (f : ℕ) → f ≡ far → set (set t (6 * k + (3 + n)) f) (6 * e + n) k ≡ linked_at wets slots n k t

@@ -1,15 +1,9 @@
 -- `across::fill` meets its contract: before each turn the table has 1 + 8 × (split records before n) records.
-use Prim.Native.Nat.{◌+◌, ◌-◌, ◌*◌, ◌≤◌}
-use mathlib.Core.Path.{◌≡◌}
-use lib.ListN.{length}
+use Prim.Native.Nat.{◌+◌, ◌*◌}
 use Rattle.rules.specs.Survey.{entries}
 use Rattle.octree.proofs.Records.{splits}
 use Rattle.across.specs.Across.{BeyondTo}
 use Rattle.across.proofs.fill.Given as goal
 
 abbrev pub invariant-loop-n : goal.invariant-loop-n
-invariant-loop-n l =
-    (l.n ≤ l.count) × (length l.across ≡ length l.initial.across) × BeyondTo l.cells l.across (1 + 8 * splits l.n (entries l.cells))
-
-abbrev pub decreases-loop-n : goal.decreases-loop-n
-decreases-loop-n l = l.count - l.n
+invariant-loop-n l = BeyondTo l.cells l.across (1 + 8 * splits l.n (entries l.cells))

@@ -1,10 +1,6 @@
 -- `across::fill_side` meets its contract: before each turn side i of the first j children is written, and all else is as it was.
-use Prim.Native.Nat.{◌-◌, ◌≤◌}
 use Rattle.across.specs.Filling.{SideFilled}
 use Rattle.across.proofs.fill_side.Given as goal
 
 abbrev pub invariant-loop-j : goal.invariant-loop-j
-invariant-loop-j l = (l.j ≤ 8) × SideFilled l.cells l.first l.far l.i l.j l.initial.across l.across
-
-abbrev pub decreases-loop-j : goal.decreases-loop-j
-decreases-loop-j l = 8 - l.j
+invariant-loop-j l = SideFilled l.cells l.first l.far l.i l.j l.initial.across l.across

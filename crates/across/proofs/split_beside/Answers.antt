@@ -1,19 +1,12 @@
 -- `across::split_beside` meets its contract.
 use Prim.Native.Nat.{◌+◌}
 use mathlib.Core.Path.{◌∙◌, ap}
-use native.Mathlib.Omega.{arith}
 use Rattle.across.specs.Filling.{if_split}
 use Rattle.across.proofs.Choices.{beside_none, beside_some}
 use Rattle.across.proofs.split_beside.Goals as goal
 
 pub returns-then-from-eq0 : goal.returns-then-from-eq0
 returns-then-from-eq0 c = beside_none c.args.cells.now c.args.from c.args.axis c.args.j c.if-from-eq0.true
-
-pub overflow_add-from : goal.overflow_add-from
-overflow_add-from c = omega (arith, c.opposite.ensures)
-
-pub if_split-requires : goal.if_split-requires
-if_split-requires c = (omega arith, omega (arith, c.opposite.ensures))
 
 pub returns : goal.returns
 returns c =

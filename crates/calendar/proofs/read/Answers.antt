@@ -1,5 +1,5 @@
 use Prim.Native.Nat.{◌+◌}
-use mathlib.Core.Path.{◌≡◌, refl, sym, ap, ◌∙◌}
+use mathlib.Core.Path.{◌≡◌, sym, ap, ◌∙◌}
 use native.Mathlib.Omega.{arith}
 use lib.ListN.{drop}
 use Rattle.rules.specs.Calendar.{period_at, periods_of, holds_at}
@@ -12,15 +12,15 @@ pub returns-then-calendar-ne0 : goal.returns-then-calendar-ne0
 returns-then-calendar-ne0 c = let a = c.args in part_left a.calendar.now a.minute c.if-calendar-ne0.true
 
 pub loop-k-init : goal.loop-k-init
-loop-k-init c = let a = c.args in (refl, omega arith, reads a.calendar.now a.minute c.if-calendar-ne0.false)
+loop-k-init c = let a = c.args in reads a.calendar.now a.minute c.if-calendar-ne0.false
 
 pub returns-then-not-follows : goal.returns-then-not-follows
 returns-then-not-follows c =
     let l = c.loop-k in
     let a = c.args in
-    sym (stopped a.calendar.now a.minute l.reading l.ended l.k (omega (arith, l.invariant.0))
+    sym (stopped a.calendar.now a.minute l.reading l.ended l.k (omega arith)
     (ap (follows l.ended) (sym c.period_at-p.ensures) ∙ sym c.follows.ensures ∙ c.if-not-follows.true))
-    ∙ l.invariant.2
+    ∙ l.invariant
 
 pub loop-k-preserved : goal.loop-k-preserved
 loop-k-preserved c =
@@ -34,15 +34,12 @@ loop-k-preserved c =
     let new : c.if-holds.reading ≡ noted a.minute l.reading (period_at t l.k) = elim c.if-holds.branch [
       | then-holds w ↦ w.reading-is ∙ noted_now a.minute l.reading c.period_at-p.result (period_at t l.k) read (held ∙ w.if-holds.true)
       | else-holds w ↦ w.reading-is ∙ noted_not a.minute l.reading (period_at t l.k) (held ∙ w.if-holds.false)
-    ] in (
-      l.invariant.0,
-      omega (arith, l.invariant.0),
-      (λ i. pass a.minute (new i) (read i).until (drop (l.k + 1) (periods_of t)))
-          ∙ went_on t a.minute l.reading l.ended l.k (omega (arith, l.invariant.0)) lawful ∙ l.invariant.2,
-    )
+    ] in
+    (λ i. pass a.minute (new i) (read i).until (drop (l.k + 1) (periods_of t)))
+    ∙ went_on t a.minute l.reading l.ended l.k (omega arith) lawful ∙ l.invariant
 
 pub returns : goal.returns
 returns c =
     let l = c.loop-k in
     let a = c.args in
-    sym (ended_all a.calendar.now a.minute l.reading l.ended l.k (omega (arith, l.invariant.0))) ∙ l.invariant.2
+    sym (ended_all a.calendar.now a.minute l.reading l.ended l.k (omega arith)) ∙ l.invariant

@@ -1,41 +1,40 @@
-use lib.Dec.{eqb}
-use mathlib.Core.Path.{ap}
 use Prim.Native.Nat.{ℕ, ◌+◌, ◌*◌}
+use mathlib.Core.Path.{◌≡◌, ap, ◌∙◌, sym}
 use native.Mathlib.Omega.{arith}
-use mathlib.Core.Path.{◌∙◌, sym}
+use lib.Dec.{eqb}
 use Rattle.cells.proofs.Entries.{leaf_passes, wrong-entry, early_entry, split_passes, entries-counted}
-use mathlib.Core.Path.{◌≡◌}
-use borrow.Author.Rules.{rules}
 use Rattle.cells.proofs.entries_right.Goals as goal
+use Rattle.cells.proofs.entries_right.Goals.{then-e-k-via-then-e-k, then-e-k-via-else-e-k+then-e-n}
 
 pub loop-n-preserved-then-e-eq0 : goal.loop-n-preserved-then-e-eq0
 loop-n-preserved-then-e-eq0 c =
-    let t = c.args.cells.now in
-    (search rules, search rules, leaf_passes t c.loop-n.n c.loop-n.k _ c.cell_entry-e.ensures (omega arith) c.if-e-eq0.true ∙ c.loop-n.invariant.2)
+    record {
+      splits = omega arith;
+      rest = leaf_passes c.args.cells.now c.loop-n.n c.loop-n.k _ c.cell_entry-e.ensures (omega arith) c.if-e-eq0.true ∙ c.loop-n.invariant.rest;
+    }
 
 pub returns-then-e-k : goal.returns-then-e-k
 returns-then-e-k c =
     let t = c.args.cells.now in
-    sym (wrong-entry t c.loop-n.n c.loop-n.k _ c.cell_entry-e.ensures (omega arith) c.if-e-eq0.false c.if-e-k.true)
-    ∙ c.loop-n.invariant.2
-
-pub returns-then-e-n : goal.returns-then-e-n
-returns-then-e-n c =
-    let t = c.args.cells.now in
-    sym (early_entry t c.loop-n.n c.loop-n.k _ c.cell_entry-e.ensures (omega arith) c.if-e-eq0.false
-    c.if-e-k.false (omega arith)) ∙ c.loop-n.invariant.2
+    let n = c.loop-n.n in
+    let k = c.loop-n.k in
+    elim c.then-e-k.branch [
+      | then-e-k-via-then-e-k w ↦
+          sym (wrong-entry t n k _ c.cell_entry-e.ensures (omega arith) c.if-e-eq0.false w.if-e-k.true) ∙ c.loop-n.invariant.rest
+      | then-e-k-via-else-e-k+then-e-n w ↦
+          sym (early_entry t n k _ c.cell_entry-e.ensures (omega arith) c.if-e-eq0.false w.if-e-k.false w.if-e-n.true) ∙ c.loop-n.invariant.rest
+    ]
 
 pub loop-n-preserved : goal.loop-n-preserved
 loop-n-preserved c =
-    let t = c.args.cells.now in
-    let passes = split_passes t c.loop-n.n c.loop-n.k _ c.cell_entry-e.ensures (omega arith) c.if-e-eq0.false
-    c.if-e-k.false (omega arith) in
-    (search rules, search rules, passes ∙ c.loop-n.invariant.2)
+    record {
+      splits = omega arith;
+      rest =
+          split_passes c.args.cells.now c.loop-n.n c.loop-n.k _ c.cell_entry-e.ensures (omega arith) c.if-e-eq0.false c.if-e-k.false c.if-e-n.false
+          ∙ c.loop-n.invariant.rest;
+    }
 
 pub returns : goal.returns
 returns c =
-    let t = c.args.cells.now in
-    let n = c.loop-n.n in
-    let k = c.loop-n.k in
-    let end : c.args.count ≡ n = omega arith in
-    ap (λ (m : ℕ). eqb m (1 + 8 * k)) end ∙ sym (entries-counted t n k (omega arith)) ∙ c.loop-n.invariant.2
+    let end : c.args.count ≡ c.loop-n.n = omega arith in
+    ap (λ (m : ℕ). eqb m (1 + 8 * c.loop-n.k)) end ∙ sym (entries-counted c.args.cells.now c.loop-n.n c.loop-n.k (omega arith)) ∙ c.loop-n.invariant.rest

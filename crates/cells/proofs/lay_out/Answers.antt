@@ -1,5 +1,4 @@
 -- `cells::lay_out` meets its contract: the box is entered first, then the children of each split record.
-use mathlib.Core.Path.{◌∙◌}
 use native.Mathlib.Omega.{arith}
 use lib.ListN.{length-set}
 use Rattle.cells.proofs.Laying.{some-record, box_turn}
@@ -13,11 +12,7 @@ enter_children-requires c =
     let t = c.args.cells.now in
     let table = c.args.laid.now in
     record {
-      count_value = c.requires.count_value;
-      cells_value = c.requires.cells_value;
-      count_in_bounds = omega (arith, length-set table 0 2814749767106560, c.requires.count_in_bounds);
+      right = c.requires.cells_value;
+      room = omega (arith, length-set table 0 2814749767106560, c.requires.count_value, c.requires.count_in_bounds);
       laid_to = box_turn t c.requires.cells_value table (omega (arith, c.requires.count_value, c.requires.count_in_bounds));
     }
-
-pub shape_of-laid : goal.shape_of-laid
-shape_of-laid c = c.laid-1.given ∙ length-set c.args.laid.now 0 2814749767106560

@@ -1,5 +1,4 @@
 -- `checks::bad_sounding` meets its contract: before each turn a sounding that is left is out of range just if one is at all.
-use Prim.Native.Nat.{◌-◌, ◌≤◌}
 use mathlib.Core.Path.{◌≡◌}
 use lib.ListN.{drop}
 use Rattle.base.specs.Lists.{any}
@@ -8,7 +7,4 @@ use Rattle.checks.proofs.Tables.{beyond}
 use Rattle.checks.proofs.bad_sounding.Given as goal
 
 abbrev pub invariant-loop-n : goal.invariant-loop-n
-invariant-loop-n l = (l.n ≤ l.count) × (any beyond (drop l.n (corners_of l.corners)) ≡ any beyond (corners_of l.corners))
-
-abbrev pub decreases-loop-n : goal.decreases-loop-n
-decreases-loop-n l = l.count - l.n
+invariant-loop-n l = any beyond (drop l.n (corners_of l.corners)) ≡ any beyond (corners_of l.corners)

@@ -1,11 +1,12 @@
 -- `checks::read` meets its contract: each return has the checks before it passed, and its own that applies.
 use native.Mathlib.Omega.{arith}
-use mathlib.Core.Path.{◌∙◌, sym, ap, refl}
-use mathlib.Core.Bool.{not}
+use mathlib.Core.Path.{◌≡◌, ◌∙◌, sym, ap, refl}
+use mathlib.Core.Bool.{Bool, not, cond}
+use Rattle.amendments.proofs.Refusals.{test_met, test_unmet, number_on, owes_nothing}
 use Rattle.rules.specs.Outputs.{corner_limit}
 use Rattle.rules.specs.Survey.{record_size}
 use Rattle.octree.proofs.Accepted.{table_fits, tables_checked}
-use Rattle.checks.proofs.Passed.{octants_of}
+use Rattle.checks.proofs.PassedTables.{octants_of}
 use Rattle.checks.proofs.Order.{refused-one, refused-two, refused_three, refused_four, refused_five, refused_six, none-refused}
 use borrow.Author.Rules.{rules}
 use Rattle.checks.proofs.read.Goals as goal
@@ -15,7 +16,7 @@ returns-then-bad_table c =
     let a = c.args in
     let e = refused-one a.cells.now a.corners.now
     (sym c.bad_table.ensures ∙ c.if-bad_table.true) in
-    record { value = e; tables = λ z. absurd (omega arith) }
+    record { value = e; tables = tt }
 
 pub returns-then-bad_table-2 : goal.returns-then-bad_table-2
 returns-then-bad_table-2 c =
@@ -23,7 +24,7 @@ returns-then-bad_table-2 c =
     let e = refused-two a.cells.now a.corners.now
     (sym c.bad_table.ensures ∙ c.if-bad_table.false)
     (sym c.bad_table-2.ensures ∙ c.if-bad_table-2.true) in
-    record { value = e; tables = λ z. absurd (omega arith) }
+    record { value = e; tables = tt }
 
 pub entries_right-requires : goal.entries_right-requires
 entries_right-requires c =
@@ -39,7 +40,7 @@ returns-then-not-entries_right c =
     (sym c.bad_table.ensures ∙ c.if-bad_table.false)
     (sym c.bad_table-2.ensures ∙ c.if-bad_table-2.false)
     (ap not (sym c.entries_right.ensures ∙ c.if-not-entries_right.true)) in
-    record { value = e; tables = λ z. absurd (omega arith) }
+    record { value = e; tables = tt }
 
 pub lay_out-requires : goal.lay_out-requires
 lay_out-requires c =
@@ -51,15 +52,19 @@ lay_out-requires c =
       count_in_bounds = omega arith;
     }
 
-pub returns-then-lay_out : goal.returns-then-lay_out
-returns-then-lay_out c =
+pub returns-in_err-lay_out : goal.returns-in_err-lay_out
+returns-in_err-lay_out c =
     let a = c.args in
+    let deep = test_met c.in_err-lay_out.field-0.0 4 _ c.in_err-lay_out.ensures.value in
     let e = refused_four a.cells.now a.corners.now
     (sym c.bad_table.ensures ∙ c.if-bad_table.false)
     (sym c.bad_table-2.ensures ∙ c.if-bad_table-2.false)
     (ap not (sym c.entries_right.ensures ∙ c.if-not-entries_right.false))
-    (sym c.lay_out.ensures.value ∙ c.if-lay_out.true) in
-    record { value = e; tables = λ z. absurd (omega arith) }
+    deep in
+    record {
+      value = number_on _ _ c.from_residual.ensures.1 ∙ c.in_err-lay_out.ensures.value ∙ ap (λ (b : Bool). cond b 4 0) deep ∙ e;
+      tables = owes_nothing _ _ _ c.from_residual.ensures.1;
+    }
 
 pub returns-then-not-corners_rise : goal.returns-then-not-corners_rise
 returns-then-not-corners_rise c =
@@ -68,21 +73,21 @@ returns-then-not-corners_rise c =
     (sym c.bad_table.ensures ∙ c.if-bad_table.false)
     (sym c.bad_table-2.ensures ∙ c.if-bad_table-2.false)
     (ap not (sym c.entries_right.ensures ∙ c.if-not-entries_right.false))
-    (sym c.lay_out.ensures.value ∙ c.if-lay_out.false)
+    (test_unmet 4 _ (λ (z : 4 ≡ 0). absurd (omega arith)) c.in_ok-lay_out.ensures.value)
     (ap not (sym c.corners_rise.ensures ∙ c.if-not-corners_rise.true)) in
-    record { value = e; tables = λ z. absurd (omega arith) }
+    record { value = e; tables = tt }
 
 pub fill-requires : goal.fill-requires
 fill-requires c =
     let a = c.args in
     let most = (table_fits 4 8196 a.cells.now (sym c.bad_table.ensures ∙ c.if-bad_table.false)).1 in
     let few = (table_fits record_size corner_limit a.corners.now (sym c.bad_table-2.ensures ∙ c.if-bad_table-2.false)).1 in
-    let laid = c.lay_out.ensures.laid c.if-lay_out.false in
+    let laid = c.in_ok-lay_out.ensures.laid in
     let rises = sym c.corners_rise.ensures ∙ c.if-not-corners_rise.false in
     record {
       corners_value = rises;
       corners_len_bound = (few, c.requires.1);
-      cells_bound = (omega arith, omega (arith, c.laid-1.given, c.requires.0));
+      cells_bound = (omega arith, omega arith);
       by_index = λ n h. let e = laid.entered n h in omega (arith, e.level, e.shallow);
     }
 
@@ -95,7 +100,7 @@ corners_right-requires c =
     let rises = sym c.corners_rise.ensures ∙ c.if-not-corners_rise.false in
     record {
       cells_value = right;
-      laid = c.lay_out.ensures.laid c.if-lay_out.false;
+      laid = c.in_ok-lay_out.ensures.laid;
       cells_len_bound = (most, few);
       corners_value = rises;
       looked_up = c.fill.ensures;
@@ -108,10 +113,10 @@ returns-then-not-corners_right c =
     (sym c.bad_table.ensures ∙ c.if-bad_table.false)
     (sym c.bad_table-2.ensures ∙ c.if-bad_table-2.false)
     (ap not (sym c.entries_right.ensures ∙ c.if-not-entries_right.false))
-    (sym c.lay_out.ensures.value ∙ c.if-lay_out.false)
+    (test_unmet 4 _ (λ (z : 4 ≡ 0). absurd (omega arith)) c.in_ok-lay_out.ensures.value)
     (ap not (sym c.corners_rise.ensures ∙ c.if-not-corners_rise.false))
     (ap not (sym c.corners_right.ensures ∙ c.if-not-corners_right.true)) in
-    record { value = e; tables = λ z. absurd (omega arith) }
+    record { value = e; tables = tt }
 
 pub returns : goal.returns
 returns c =
@@ -121,14 +126,14 @@ returns c =
     (sym c.bad_table.ensures ∙ c.if-bad_table.false)
     (sym c.bad_table-2.ensures ∙ c.if-bad_table-2.false)
     (ap not (sym c.entries_right.ensures ∙ c.if-not-entries_right.false))
-    (sym c.lay_out.ensures.value ∙ c.if-lay_out.false)
+    (test_unmet 4 _ (λ (z : 4 ≡ 0). absurd (omega arith)) c.in_ok-lay_out.ensures.value)
     (ap not (sym c.corners_rise.ensures ∙ c.if-not-corners_rise.false))
     (ap not (sym c.corners_right.ensures ∙ c.if-not-corners_right.false)) in
-    let laid = c.lay_out.ensures.laid c.if-lay_out.false in
+    let laid = c.in_ok-lay_out.ensures.laid in
     let filled = c.fill.ensures in
     record {
       value = passed;
-      tables = λ z. record {
+      tables = record {
         passed = sym passed;
         cell = laid;
         cell_room = search (rules, most);

@@ -1,5 +1,4 @@
 -- `crossings::wet_mask` meets its contract: before each turn the number is that of the marks from corner i on.
-use Prim.Native.Nat.{◌≤◌}
 use mathlib.Core.Path.{◌≡◌}
 use mathlib.Core.List.{map}
 use lib.ListN.{drop}
@@ -8,7 +7,4 @@ use Rattle.crossings.specs.Crossings.{binary}
 use Rattle.crossings.proofs.wet_mask.Given as goal
 
 abbrev pub invariant-loop-i : goal.invariant-loop-i
-invariant-loop-i l = (l.i ≤ 8) × (l.mask ≡ binary (map (wet l.clearance) (drop l.i l.leaf.corners)))
-
-abbrev pub decreases-loop-i : goal.decreases-loop-i
-decreases-loop-i l = l.i
+invariant-loop-i l = l.mask ≡ binary (map (wet l.clearance) (drop l.i l.leaf.corners))

@@ -1,43 +1,23 @@
 -- `drawing::draw_amended` meets its contract: 14 and 15, then the drawing with the corner table as amended.
-use mathlib.Core.Path.{◌≡◌, sym, ◌∙◌, subst}
-use lib.ListN.{length, take}
-use Rattle.rules.specs.Resounding.{amended, draw_amended}
-use Rattle.rules.specs.declared.Drawn.{Drawn}
-use Rattle.amendments.proofs.Calls.{amended-fits}
-use Rattle.checks.proofs.Amended.{tables_kept}
-use Rattle.drawing.specs.Draws.{Draws}
+use mathlib.Core.Path.{sym}
+use Rattle.rules.specs.Refusals.{refusal_number}
+use Rattle.amendments.proofs.Refusals.{some_number}
 use Rattle.drawing.proofs.Amended.{refused-next, in_force}
+use Rattle.drawing.proofs.Outcome.{refused_with}
 use Rattle.drawing.proofs.draw_amended.Goals as goal
-use Rattle.drawing.proofs.draw_amended.Goals.{Else-number-ne0}
 
--- where they pass, the front of the table is the corner table as amended
-in_front : (e : Else-number-ne0) → take (length e.args.corners.now) e.refusal-number.new.table
-    ≡ amended e.args.corners.now e.args.amendments.now
-in_front e = e.refusal-number.ensures.table_after e.if-number-ne0.false
-
-pub returns-then-number-ne0 : goal.returns-then-number-ne0
-returns-then-number-ne0 c =
+pub returns-in_err-amended : goal.returns-in_err-amended
+returns-in_err-amended c =
     let a = c.args in
-    subst (λ (q : Drawn). Draws (draw_amended a.cells.now a.corners.now a.amendments.now a.clearance a.points.now a.triangles.now) q
-    a.points.now a.triangles.now)
-    (sym c.result.ensures)
-    (refused-next a.cells.now a.corners.now a.amendments.now a.clearance a.points.now a.triangles.now c.refusal-number.result
-    c.refusal-number.ensures.value c.if-number-ne0.true)
-
-pub slice_bounds-table-end : goal.slice_bounds-table-end
-slice_bounds-table-end c =
-    (amended-fits c.args.cells.now c.args.corners.now c.args.amendments.now _ c.requires.passed (in_front c)).0
-
-pub slice_bounds-draw_in_force-end : goal.slice_bounds-draw_in_force-end
-slice_bounds-draw_in_force-end c =
-    (amended-fits c.args.cells.now c.args.corners.now c.args.amendments.now _ c.requires.passed (in_front (goal.at.slice_bounds-draw_in_force-end c).Else-number-ne0)).1
-
-pub draw_in_force-requires : goal.draw_in_force-requires
-draw_in_force-requires c =
-    tables_kept c.args.cells.now c.args.corners.now c.args.amendments.now c.args.laid.now c.args.octants.now _ (in_front (goal.at.draw_in_force-requires c).Else-number-ne0) c.requires
+    let p = a.passed in
+    let e = c.in_err-amended.field-0.0 in
+    refused_with _ _ e c.from_residual.ensures.1
+    (refused-next p.cells.now p.corners.now a.amendments.now a.clearance a.points.now a.triangles.now (refusal_number e) c.in_err-amended.ensures.value (some_number e))
 
 pub returns : goal.returns
 returns c =
     let a = c.args in
-    in_force a.cells.now a.corners.now a.amendments.now a.clearance a.points.now a.triangles.now _ _ _
-    (sym c.refusal-number.ensures.value ∙ c.if-number-ne0.false) _ (in_front (goal.at.returns c).Else-number-ne0) c.draw_in_force.ensures
+    let p = a.passed in
+    let same = c.in_ok-amended.ensures.survey in
+    in_force p.cells.now p.corners.now a.amendments.now a.clearance a.points.now a.triangles.now _ _ _
+    (sym c.in_ok-amended.ensures.value) _ same.1 (rw same.0 at c.draw_in_force.ensures)

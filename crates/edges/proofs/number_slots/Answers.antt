@@ -16,15 +16,13 @@ loop-slot-preserved-then-slot-count c =
     let slot = c.loop-slot.slot in
     let left = slot / 4872 * 4872 + 4872 - slot in
     let end : slot + left ≡ slot / 4872 * 4872 + 4872 = omega arith in
-    rw end at (pass_over a.cells.now a.corners.now a.clearance _ _ _ left slot (omega arith)
-    (λ j h k. record_outside a.cells.now a.corners.now a.clearance j (omega arith)) c.loop-slot.invariant)
+    rw end at (pass_over a.survey.now.cells.now a.survey.now.corners.now a.survey.now.clearance _ _ _ left slot (omega arith)
+    (λ j h k. record_outside a.survey.now.cells.now a.survey.now.corners.now a.survey.now.clearance j (omega arith)) c.loop-slot.invariant)
 
 pub is_crossed-crossed-requires : goal.is_crossed-crossed-requires
 is_crossed-crossed-requires c =
     record {
-      clearance_value = c.requires.clearance_value;
       wets = c.requires.wets;
-      levelled = c.loop-slot.invariant.levelled;
       slot_bound = omega arith;
     }
 
@@ -34,7 +32,7 @@ bounds-slots-slot c = omega (arith, c.loop-slot.invariant.levelled.size)
 pub loop-slot-preserved : goal.loop-slot-preserved
 unfolding with_number
 loop-slot-preserved c =
-    number-next c.args.cells.now c.args.corners.now c.args.clearance _ _ _ _ c.loop-slot.invariant (omega arith) c.is_crossed-crossed.result
+    number-next c.args.survey.now.cells.now c.args.survey.now.corners.now c.args.survey.now.clearance _ _ _ _ c.loop-slot.invariant (omega arith) c.is_crossed-crossed.result
     c.is_crossed-crossed.ensures _ c.enter-n.ensures.0 _ _ refl c.enter-n.ensures.1
 
 pub shape_of-slots : goal.shape_of-slots
@@ -42,12 +40,12 @@ shape_of-slots c = c.loop-slot.invariant.levelled.size ∙ sym c.requires.levell
 
 pub returns : goal.returns
 returns c =
-    let tc = c.args.cells.now in
-    let tk = c.args.corners.now in
-    let v = c.args.clearance in
+    let tc = c.args.survey.now.cells.now in
+    let tk = c.args.survey.now.corners.now in
+    let v = c.args.survey.now.clearance in
     let e : c.loop-slot.slot ≡ 14616 = omega arith in
-    let laws = edges_law tc tk v c.requires.clearance_value in
-    let few = few-places tc tk v c.requires.clearance_value in
+    let laws = edges_law tc tk v c.args.survey.now.accepted in
+    let few = few-places tc tk v c.args.survey.now.accepted in
     record {
       value = count-done tc tk v laws few _ _ _ _ c.loop-slot.invariant e;
       numbered = numbers-done tc tk v laws few _ _ _ _ c.loop-slot.invariant e;

@@ -4,7 +4,7 @@ use Prim.Native.Nat.{◌-◌}
 use Rattle.edges.proofs.number_slots.Given as goal
 
 abbrev pub invariant-loop-slot : goal.invariant-loop-slot
-invariant-loop-slot l = NumberedBelow l.cells l.corners l.clearance l.slots l.carriers l.n l.slot
+invariant-loop-slot l = NumberedBelow l.survey.cells.now l.survey.corners.now l.survey.clearance l.slots l.carriers l.n l.slot
 
 abbrev pub decreases-loop-slot : goal.decreases-loop-slot
 decreases-loop-slot l = 14616 - l.slot

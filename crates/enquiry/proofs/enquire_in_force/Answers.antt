@@ -1,102 +1,40 @@
 -- `enquiry::enquire_in_force` meets its contract: the refusals in their order; no edge starts outside the box; then the answer from the tables.
-use Rattle.enquiry.proofs.Enquiring.{key-is, far_off, enquiry-refused, is-accepted, axis-refused, edge-refused, enquiry-answer}
-use Rattle.enquiry.specs.Enquiry.{lower_end, edge_answer}
-use Rattle.rules.specs.Outputs.{level_of}
-use Rattle.base.specs.Grid.{X, Y, Z, axis_of}
+use Prim.Native.Nat.{◌+◌, ◌*◌}
 use mathlib.Core.Path.{ap, ◌∙◌}
 use native.Mathlib.Omega.{arith}
+use Rattle.base.specs.Grid.{axis_of}
+use Rattle.rules.specs.Refusals.{refusal_number}
+use Rattle.amendments.proofs.Refusals.{some_number}
+use Rattle.enquiry.specs.Enquiry.{lower_end, edge_answer}
+use Rattle.enquiry.proofs.Enquiring.{key-is, answered_on, enquiry-refused, is-accepted, nowhere-refused, enquiry-answer}
 use Rattle.enquiry.proofs.enquire_in_force.Goals as goal
 
-pub returns-then-number-ne0 : goal.returns-then-number-ne0
-returns-then-number-ne0 c =
-    let tc = c.args.cells.now in
-    let tk = c.args.corners.now in
-    let x = c.args.clearance in
-    let n = c.args.edge.axis in
-    let p = lower_end c.args.edge in
-    let e = c.refusal-number.ensures in
-    (enquiry-refused tc tk x n p c.args.edge.length c.refusal-number.result e c.if-number-ne0.true)
+pub returns-in_err-refusal : goal.returns-in_err-refusal
+returns-in_err-refusal c =
+    let a = c.args in
+    let e = c.in_err-refusal.field-0.0 in
+    answered_on _ _ c.from_residual.ensures.1
+    ∙ enquiry-refused a.passed.cells.now a.passed.corners.now a.clearance a.edge.axis (lower_end a.edge) a.edge.length
+    (refusal_number e) c.in_err-refusal.ensures (some_number e)
 
 pub returns-then-edge-gt2 : goal.returns-then-edge-gt2
 returns-then-edge-gt2 c =
-    let tc = c.args.cells.now in
-    let tk = c.args.corners.now in
-    let x = c.args.clearance in
-    let n = c.args.edge.axis in
-    let p = lower_end c.args.edge in
-    let e = c.refusal-number.ensures in
-    (axis-refused tc tk x n p c.args.edge.length c.refusal-number.result e c.if-number-ne0.false (omega (arith, c.if-edge-gt2.true)))
+    let a = c.args in
+    nowhere-refused a.passed.cells.now a.passed.corners.now a.clearance a.edge.axis (lower_end a.edge) a.edge.length
+    c.in_ok-refusal.ensures c.then-edge-gt2.either
 
-pub returns-then-edge-gt1024 : goal.returns-then-edge-gt1024
-returns-then-edge-gt1024 c =
-    let tc = c.args.cells.now in
-    let tk = c.args.corners.now in
-    let x = c.args.clearance in
-    let n = c.args.edge.axis in
-    let p = lower_end c.args.edge in
-    let e = c.refusal-number.ensures in
-    let z = c.if-number-ne0.false in
-    (edge-refused tc tk x n p c.args.edge.length c.refusal-number.result e z (omega (arith, c.if-edge-gt2.false))
-    (far_off tc tk x (is-accepted tc tk x n p c.args.edge.length c.refusal-number.result e z) (axis_of n) X p (level_of c.args.edge.length)
-    c.if-edge-gt1024.true))
-
-pub returns-then-edge-gt1024-2 : goal.returns-then-edge-gt1024-2
-returns-then-edge-gt1024-2 c =
-    let tc = c.args.cells.now in
-    let tk = c.args.corners.now in
-    let x = c.args.clearance in
-    let n = c.args.edge.axis in
-    let p = lower_end c.args.edge in
-    let e = c.refusal-number.ensures in
-    let z = c.if-number-ne0.false in
-    (edge-refused tc tk x n p c.args.edge.length c.refusal-number.result e z (omega (arith, c.if-edge-gt2.false))
-    (far_off tc tk x (is-accepted tc tk x n p c.args.edge.length c.refusal-number.result e z) (axis_of n) Y p (level_of c.args.edge.length)
-    c.if-edge-gt1024-2.true))
-
-pub returns-then-edge-gt1024-3 : goal.returns-then-edge-gt1024-3
-returns-then-edge-gt1024-3 c =
-    let tc = c.args.cells.now in
-    let tk = c.args.corners.now in
-    let x = c.args.clearance in
-    let n = c.args.edge.axis in
-    let p = lower_end c.args.edge in
-    let e = c.refusal-number.ensures in
-    let z = c.if-number-ne0.false in
-    (edge-refused tc tk x n p c.args.edge.length c.refusal-number.result e z (omega (arith, c.if-edge-gt2.false))
-    (far_off tc tk x (is-accepted tc tk x n p c.args.edge.length c.refusal-number.result e z) (axis_of n) Z p (level_of c.args.edge.length)
-    c.if-edge-gt1024-3.true))
-
-pub enquire_accepted-requires : goal.enquire_accepted-requires
-enquire_accepted-requires c =
-    let tc = c.args.cells.now in
-    let tk = c.args.corners.now in
-    let x = c.args.clearance in
-    let n = c.args.edge.axis in
-    let p = lower_end c.args.edge in
-    let e = c.refusal-number.ensures in
-    let z = c.if-number-ne0.false in
-    let passed = is-accepted tc tk x n p c.args.edge.length c.refusal-number.result e z in
-    record {
-      clearance_value = passed;
-      laid = (c.requires.cell, c.requires.cell_room);
-      octants = c.requires.corner;
-      axis_bound = omega (arith, c.if-edge-gt2.false);
-    }
+pub invariant_of-survey-clause-accepted : goal.invariant_of-survey-clause-accepted
+invariant_of-survey-clause-accepted c =
+    let a = c.args in
+    is-accepted a.passed.cells.now a.passed.corners.now a.clearance a.edge.axis (lower_end a.edge) a.edge.length c.in_ok-refusal.ensures
 
 pub returns : goal.returns
 returns c =
-    let tc = c.args.cells.now in
-    let tk = c.args.corners.now in
-    let x = c.args.clearance in
-    let n = c.args.edge.axis in
-    let p = lower_end c.args.edge in
-    let e = c.refusal-number.ensures in
-    let z = c.if-number-ne0.false in
-    (c.enquire_accepted.ensures p
-    (record {
-      x_fits = omega (arith, c.if-edge-gt1024.false);
-      y_fits = omega
-          (arith, c.if-edge-gt1024-2.false);
-    }) (key-is c.args.edge.x c.args.edge.y c.args.edge.z) ∙
-    ap (edge_answer tc tk x (axis_of n) p) c.level_of.ensures ∙ enquiry-answer tc tk x n p c.args.edge.length c.refusal-number.result e z
-    (omega (arith, c.if-edge-gt2.false)))
+    let e = c.args.edge in
+    let p = lower_end e in
+    let tc = c.args.passed.cells.now in
+    let tk = c.args.passed.corners.now in
+    let key = (λ i. c.from.ensures i + 65536 * c.from-2.ensures i + 4294967296 * c.from-3.ensures i) ∙ key-is e.x e.y e.z in
+    c.enquire_accepted.ensures p (record { x_fits = omega arith; y_fits = omega arith }) key
+    ∙ ap (edge_answer tc tk c.args.clearance (axis_of e.axis) p) c.level_of.ensures
+    ∙ enquiry-answer tc tk c.args.clearance e.axis p e.length c.in_ok-refusal.ensures (omega arith)

@@ -4,7 +4,6 @@ use mathlib.Core.Path.{ap, ◌∙◌}
 use lib.ListN.{length, get_or}
 use borrow.Author.Rules.{rules}
 use Rattle.trace.specs.Trace.{recorded}
-use Rattle.trace.proofs.Laws.{length-one}
 use Rattle.faces.proofs.Recording.{none_enters, one_enters, one-fits}
 use Rattle.faces.proofs.edge_step.Goals as goal
 use Rattle.faces.proofs.edge_step.Goals.{Start}
@@ -16,12 +15,12 @@ point s k = get_or s.args.crossings.now (13 * s.args.m + k) 0
 pub returns-then-k-ge4 : goal.returns-then-k-ge4
 returns-then-k-ge4 c =
     let a = c.args in
-    none_enters a.crossings.now a.row a.m a.pattern a.j c.wide-k.result (c.wide-k.ensures ∙ c.step_from.ensures) _ c.if-k-ge4.true
+    none_enters a.crossings.now a.row a.m a.pattern a.j c.from-k.result (c.from-k.ensures ∙ c.step_from.ensures) _ c.if-k-ge4.true
 
 pub record_step-requires : goal.record_step-requires
 record_step-requires c =
     let a = c.args in
-    let room = one-fits a.crossings.now a.row a.m a.pattern a.j c.wide-k.result (c.wide-k.ensures ∙ c.step_from.ensures)
+    let room = one-fits a.crossings.now a.row a.m a.pattern a.j c.from-k.result (c.from-k.ensures ∙ c.step_from.ensures)
     (point (goal.at.record_step-requires c).Start c.row_edge.result) (point (goal.at.record_step-requires c).Start c.row_edge-2.result) c.if-k-ge4.false
     (ap (point (goal.at.record_step-requires c).Start) c.row_edge.ensures.0) (ap (point (goal.at.record_step-requires c).Start) c.row_edge-2.ensures.0) (length a.trace.now) c.requires.fits in
     search rules
@@ -31,10 +30,6 @@ returns c =
     let a = c.args in
     c.record_step.ensures
     ∙ ap (λ ss. recorded ss a.trace.now)
-    (one_enters a.crossings.now a.row a.m a.pattern a.j c.wide-k.result (c.wide-k.ensures ∙ c.step_from.ensures)
+    (one_enters a.crossings.now a.row a.m a.pattern a.j c.from-k.result (c.from-k.ensures ∙ c.step_from.ensures)
     (point (goal.at.returns c).Start c.row_edge.result) (point (goal.at.returns c).Start c.row_edge-2.result) c.if-k-ge4.false
     (ap (point (goal.at.returns c).Start) c.row_edge.ensures.0) (ap (point (goal.at.returns c).Start) c.row_edge-2.ensures.0))
-
-pub shape_of-trace : goal.shape_of-trace
-shape_of-trace c =
-    ap length c.record_step.ensures ∙ length-one (point (goal.at.shape_of-trace c).Start c.row_edge.result, point (goal.at.shape_of-trace c).Start c.row_edge-2.result) c.args.trace.now

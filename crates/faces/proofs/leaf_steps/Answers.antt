@@ -26,7 +26,6 @@ side_steps-requires c =
     let i = c.loop-i.i in
     let more : i < 6 = omega (arith, c.loop-i-test.true) in
     record {
-      roomy = c.requires.roomy;
       reaching = c.requires.reaching;
       i_bound = more;
       fits = next_fits (steps (goal.at.side_steps-requires c).At-loop-i) (count 0 6) i _ _ c.loop-i.invariant more i (count_at 6 i more)
@@ -38,9 +37,6 @@ loop-i-preserved c =
     let i = c.loop-i.i in
     let more : i < 6 = omega (arith, c.loop-i-test.true) in
     recorded-next (steps (goal.at.loop-i-preserved c).At-loop-i) (count 0 6) i _ _ c.loop-i.invariant more i (count_at 6 i more) _ c.side_steps.ensures
-
-pub shape_of-trace : goal.shape_of-trace
-shape_of-trace c = c.loop-i.invariant.same
 
 pub returns : goal.returns
 returns c =

@@ -1,4 +1,4 @@
--- `graph::number_corners` meets its contract: a search, and a copy of its first numbers.
+-- `graph::rank_corners` meets its contract: a search, and a copy of its first ranks.
 use mathlib.Core.Path.{ap, ◌∙◌}
 use mathlib.Core.List.{List, ◌++◌}
 use Prim.Native.Nat.{ℕ}
@@ -12,6 +12,7 @@ use Rattle.graph.proofs.rank_corners.Goals as goal
 pub returns : goal.returns
 returns c =
     let a = c.args in
-    let g = graph_in a.links.now a.count in
-    c.copy.ensures ∙ ap (λ (l : List ℕ). take a.count l ++ drop a.count a.ranks.now) c.explore.ensures
-    ∙ ap (λ (l : List ℕ). l ++ drop a.count a.ranks.now) (take_at (fewest_steps g a.start) _ a.count (stepped g a.start).sized)
+    let steps = fewest_steps (graph_in a.links.now a.count) a.start in
+    ap (λ (l : List ℕ). l ++ drop a.count a.ranks.now)
+    (c.copy_from_slice.ensures.after ∙ ap (take a.count) c.explore.ensures
+    ∙ take_at steps _ a.count (stepped (graph_in a.links.now a.count) a.start).sized)

@@ -1,22 +1,19 @@
-use Prim.Native.Nat.{ℕ}
-use mathlib.Core.Path.{◌≡◌, sym, subst}
+use mathlib.Core.Path.{◌≡◌, sym, ap, ◌∙◌, subst}
+use mathlib.Core.List.{List}
 use native.Mathlib.Omega.{arith}
+use Prim.Native.Nat.{ℕ}
 use Rattle.trace.specs.Trace.{met_count}
-use Rattle.loops.specs.Sweep.{Lowest}
-use Rattle.loops.proofs.Lowest.{lowest-none, lowest-more}
+use Rattle.loops.specs.Sweep.{lowest_of, Lowest}
+use Rattle.loops.proofs.Lowest.{lowest}
 use Rattle.loops.proofs.lowest_met.Goals as goal
 
-pub loop-i-init : goal.loop-i-init
-loop-i-init c = (omega arith, lowest-none _)
+-- when all are looked at, the number is the lowest
+all : (t : List ℕ) (i r : ℕ) → i ≡ met_count t → r ≡ lowest_of t i → Lowest t (met_count t) r
+all t i r e is = subst (Lowest t (met_count t)) (sym (is ∙ ap (lowest_of t) e)) (lowest t (met_count t))
 
-pub lower-lowest-requires : goal.lower-lowest-requires
-lower-lowest-requires c = c.requires.by_index c.loop-i.i (omega (arith, c.wide-count.ensures))
+pub returns-then-lowest-clause-lowest : goal.returns-then-lowest-clause-lowest
+returns-then-lowest-clause-lowest c =
+    all c.args.trace.now c.loop-i.i 65535 (omega (arith, c.from-i-end.ensures)) (sym c.if-lowest.true ∙ c.loop-i.invariant)
 
-pub loop-i-preserved : goal.loop-i-preserved
-loop-i-preserved c = (omega arith, subst (Lowest _ _) (sym c.lower-lowest.ensures) (lowest-more _ _ _ c.loop-i.invariant.1))
-
-pub returns : goal.returns
-returns c =
-    let trace = c.args.trace.now in
-    let all : c.loop-i.i ≡ met_count trace = omega (arith, c.wide-count.ensures) in
-    subst (λ (n : ℕ). Lowest trace n c.loop-i.lowest) all c.loop-i.invariant.1
+pub returns-else-lowest-clause-lowest : goal.returns-else-lowest-clause-lowest
+returns-else-lowest-clause-lowest c = all c.args.trace.now c.loop-i.i c.loop-i.lowest (omega (arith, c.from-i-end.ensures)) c.loop-i.invariant

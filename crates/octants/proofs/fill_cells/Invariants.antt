@@ -1,10 +1,6 @@
 -- `octants::fill_cells` meets its contract: before each turn the table has the corners of the cells before cell n.
-use Prim.Native.Nat.{◌-◌, ◌≤◌}
 use Rattle.octants.specs.Octants.{LookedUp}
 use Rattle.octants.proofs.fill_cells.Given as goal
 
 abbrev pub invariant-loop-n : goal.invariant-loop-n
-invariant-loop-n l = (l.n ≤ l.cells) × LookedUp l.corners l.laid l.octants l.n
-
-abbrev pub decreases-loop-n : goal.decreases-loop-n
-decreases-loop-n l = l.cells - l.n
+invariant-loop-n l = LookedUp l.corners l.laid l.octants l.n

@@ -9,7 +9,7 @@ returns-clause-smaller c =
     let h = c.is_below-3.ensures in
     let a = c.args in
     round_below a.corners.now c.type_inv.corners c.requires.ordered.1 a.count a.key a.low a.size _ _ _ c.requires.ordered.0
-    (f.upper_bound, (f.at_lt_count, f.key_bound)) (g.upper_bound, (g.at_lt_count, g.key_bound)) (h.upper_bound, (h.at_lt_count, h.key_bound))
+    (f.upper_bound, (f.smaller, f.no_smaller)) (g.upper_bound, (g.smaller, g.no_smaller)) (h.upper_bound, (h.smaller, h.no_smaller))
 
 pub returns-clause-no_smaller : goal.returns-clause-no_smaller
 returns-clause-no_smaller c =
@@ -18,4 +18,4 @@ returns-clause-no_smaller c =
     let h = c.is_below-3.ensures in
     let a = c.args in
     round-from a.corners.now c.type_inv.corners c.requires.ordered.1 a.count a.key a.low a.size _ _ _ c.requires.ordered.0
-    (f.upper_bound, (f.at_lt_count, f.key_bound)) (g.upper_bound, (g.at_lt_count, g.key_bound)) (h.upper_bound, (h.at_lt_count, h.key_bound))
+    (f.upper_bound, (f.smaller, f.no_smaller)) (g.upper_bound, (g.smaller, g.no_smaller)) (h.upper_bound, (h.smaller, h.no_smaller))

@@ -24,8 +24,6 @@ overflow_add-total c = (turned c).0
 
 pub loop-k-preserved : goal.loop-k-preserved
 loop-k-preserved c = record {
-  count = c.loop-k.invariant.count;
-  turns = omega arith;
   total = to_z-of_z {w = w64} (turned c).0 ∙ (turned c).1;
   small = (turned c).2;
 }

@@ -1,5 +1,5 @@
 -- `water::sum` meets its contract: before each turn the total is that of the triangles passed, and small enough.
-use Rattle.std.proofs.Common.{◌≡◌, ◌-◌, ◌*◌, ◌^◌, ◌≤◌, nat_abs}
+use Rattle.std.proofs.Common.{◌≡◌, ◌*◌, ◌^◌, ◌≤◌, nat_abs}
 use Rattle.rules.specs.Closing.{triangles_in}
 use Rattle.rules.specs.Water.{sixfold}
 use Rattle.water.specs.Corners.{reference_place}
@@ -8,7 +8,4 @@ use Rattle.water.proofs.sum.Given as goal
 abbrev pub invariant-loop-k : goal.invariant-loop-k
 invariant-loop-k l =
     let passed = sixfold (reference_place l.reference) l.points (triangles_in l.k l.triangles) in
-    record { count : l.count ≡ l.m; turns : l.k ≤ l.m; total : l.total ≡ passed; small : nat_abs passed ≤ l.k * (6 * 2 ^ 42) }
-
-abbrev pub decreases-loop-k : goal.decreases-loop-k
-decreases-loop-k l = l.m - l.k
+    record { total : l.total ≡ passed; small : nat_abs passed ≤ l.k * (6 * 2 ^ 42) }

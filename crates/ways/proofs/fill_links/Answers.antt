@@ -1,10 +1,9 @@
 use Prim.Native.Nat.{ℕ, ◌+◌, ◌*◌, ◌≤◌, ◌<◌}
-use mathlib.Core.Path.{◌≡◌, refl, sym, ap, ◌∙◌, subst}
+use mathlib.Core.Path.{◌≡◌, refl, sym, subst}
 use mathlib.Core.List.{List}
 use native.Mathlib.Omega.{arith}
-use lib.ListN.{length, length-replicate}
 use Rattle.rules.specs.Survey.{record_count}
-use Rattle.records.proofs.Keys.{Bytes}
+use Rattle.edges.proofs.Lent.{corner_bytes}
 use Rattle.ways.specs.Linked.{linked_at}
 use Rattle.ways.proofs.Linking.{link_start}
 use Rattle.ways.proofs.Joined.{lowest_from, far_from, Step, Filled, linked}
@@ -14,85 +13,103 @@ use Rattle.ways.proofs.fill_links.Goals.{After-link, After-link-in-loop-k, After
 
 -- the links that are in, of a table
 abbrev LinkedAt : At-loop-k → List ℕ → ℕ → Type 0
-LinkedAt l = Linked l.args.corners.now l.args.wets.now l.args.slots.now
+LinkedAt l = Linked l.args.edges.now.survey.corners.now l.args.wets.now l.args.edges.now.slots.now
 
 module _ (s : Start) where
   abbrev FilledAt : Type 0
-  FilledAt = Filled s.args.cells.now s.args.corners.now s.args.clearance s.args.slots.now s.args.wets.now
+  FilledAt =
+      let edges = s.args.edges.now in
+      Filled edges.survey.cells.now edges.survey.corners.now edges.survey.clearance edges.slots.now s.args.wets.now
 
-  filled_at : Bytes s.args.corners.now → FilledAt
-  filled_at bytes = record { ok = s.requires.clearance_value; bytes = bytes; levelled = s.requires.levelled; marks = s.requires.wets }
+  filled_at : FilledAt
+  filled_at =
+      let edges = s.args.edges.now in
+      record { ok = edges.survey.accepted; bytes = corner_bytes edges.survey; levelled = edges.levelled; marks = s.requires.wets }
 
 module _ (l : At-loop-k) where
   filled : FilledAt (goal.at.At-loop-k l).Start
-  filled = filled_at (goal.at.At-loop-k l).Start l.type_inv.corners
+  filled = filled_at (goal.at.At-loop-k l).Start
 
-  few : record_count l.args.corners.now ≤ 4872
+  few : record_count l.args.edges.now.survey.corners.now ≤ 4872
   few = few-corners filled
 
-  module _ (h : l.loop-k.k < record_count l.args.corners.now) (n : ℕ) (g : n < 3) where
-    far-few : lowest_from l.args.slots.now n l.loop-k.k ≤ 10 → far_from l.args.slots.now n l.loop-k.k < 4872
+  module _ (h : l.loop-k.k < record_count l.args.edges.now.survey.corners.now) (n : ℕ) (g : n < 3) where
+    far-few : lowest_from l.args.edges.now.slots.now n l.loop-k.k ≤ 10 → far_from l.args.edges.now.slots.now n l.loop-k.k < 4872
     far-few o = let a = far-inside filled n l.loop-k.k g h o in omega (arith, few)
 
     more : (x : ℕ) → x ≡ 3 * l.loop-k.k + n → {t : List ℕ} → LinkedAt l t x →
-        {new : List ℕ} → new ≡ linked_at l.args.wets.now l.args.slots.now n l.loop-k.k t → LinkedAt l new (x + 1)
+        {new : List ℕ} → new ≡ linked_at l.args.wets.now l.args.edges.now.slots.now n l.loop-k.k t → LinkedAt l new (x + 1)
     more x e {t} known {new} is = slot_linked filled n l.loop-k.k x g h e t known new is
 
 first : (r : After-link) → LinkedAt (goal.at.After-link r).At-loop-k r.link.new.links (3 * r.loop-k.k + 1)
 first r =
-    more (goal.at.After-link r).At-loop-k r.loop-k-test.true 0 (omega arith) (3 * r.loop-k.k) (omega arith) r.loop-k.invariant.0 r.link.ensures
+    more (goal.at.After-link r).At-loop-k (omega arith) 0 (omega arith) (3 * r.loop-k.k) (omega arith) r.loop-k.invariant r.link.ensures
 
 second : (r : After-link-in-loop-k) →
     LinkedAt (goal.at.After-link-in-loop-k r).At-loop-k r.link-in-loop-k.new.links (3 * r.loop-k.k + 1 + 1)
 second r =
-    more (goal.at.After-link-in-loop-k r).At-loop-k r.loop-k-test.true 1 (omega arith) (3 * r.loop-k.k + 1) refl (first (goal.at.After-link-in-loop-k r).After-link) r.link-in-loop-k.ensures
+    more (goal.at.After-link-in-loop-k r).At-loop-k (omega arith) 1 (omega arith) (3 * r.loop-k.k + 1) refl
+    (first (goal.at.After-link-in-loop-k r).After-link) r.link-in-loop-k.ensures
 
 third : (r : After-link-in-loop-k-2) →
     LinkedAt (goal.at.After-link-in-loop-k-2 r).At-loop-k r.link-in-loop-k-2.new.links (3 * r.loop-k.k + 1 + 1 + 1)
 third r =
-    more (goal.at.After-link-in-loop-k-2 r).At-loop-k r.loop-k-test.true 2 (omega arith) (3 * r.loop-k.k + 1 + 1) (omega arith) (second (goal.at.After-link-in-loop-k-2 r).After-link-in-loop-k) r.link-in-loop-k-2.ensures
+    more (goal.at.After-link-in-loop-k-2 r).At-loop-k (omega arith) 2 (omega arith) (3 * r.loop-k.k + 1 + 1) (omega arith)
+    (second (goal.at.After-link-in-loop-k-2 r).After-link-in-loop-k) r.link-in-loop-k-2.ensures
 
 pub loop-k-init : goal.loop-k-init
 loop-k-init c =
-    let a = c.args in
-    let few = few-corners (filled_at (goal.at.loop-k-init c).Start c.type_inv.corners) in (
-      subst (λ (t : List ℕ). Linked a.corners.now a.wets.now a.slots.now t 0) (sym c.requires.links_value)
-          (link_start (record_count a.corners.now) (Step a.corners.now a.wets.now a.slots.now) few 29232 refl),
-      omega arith,
-    )
+    let edges = c.args.edges.now in
+    let few = few-corners (filled_at (goal.at.loop-k-init c).Start) in
+    subst (λ (t : List ℕ). Linked edges.survey.corners.now c.args.wets.now edges.slots.now t 0) (sym c.requires.none_linked)
+    (link_start (record_count edges.survey.corners.now) (Step edges.survey.corners.now c.args.wets.now edges.slots.now) few 29232 refl)
 
 pub link-requires : goal.link-requires
 link-requires c =
-    let h = c.loop-k-test.true in
+    let h : c.loop-k.k < record_count c.args.edges.now.survey.corners.now = omega arith in
     record {
-      slots_len = (c.requires.levelled.size, omega arith, omega (arith, few (goal.at.link-requires c).At-loop-k), c.requires.wets.size, c.loop-k.invariant.0.room);
+      slots_len = (
+        c.args.edges.now.levelled.size,
+        omega arith,
+        omega (arith, few (goal.at.link-requires c).At-loop-k),
+        c.requires.wets.size,
+        c.loop-k.invariant.room,
+      );
       k_bound = far-few (goal.at.link-requires c).At-loop-k h 0 (omega arith);
     }
 
 pub link-requires-in-loop-k : goal.link-requires-in-loop-k
 link-requires-in-loop-k c =
-    let h = c.loop-k-test.true in
+    let h : c.loop-k.k < record_count c.args.edges.now.survey.corners.now = omega arith in
     record {
-      slots_len = (c.requires.levelled.size, omega arith, omega (arith, few (goal.at.link-requires-in-loop-k c).At-loop-k), c.requires.wets.size, (first (goal.at.link-requires-in-loop-k c).After-link).room);
+      slots_len = (
+        c.args.edges.now.levelled.size,
+        omega arith,
+        omega (arith, few (goal.at.link-requires-in-loop-k c).At-loop-k),
+        c.requires.wets.size,
+        (first (goal.at.link-requires-in-loop-k c).After-link).room,
+      );
       k_bound = far-few (goal.at.link-requires-in-loop-k c).At-loop-k h 1 (omega arith);
     }
 
 pub link-requires-in-loop-k-2 : goal.link-requires-in-loop-k-2
 link-requires-in-loop-k-2 c =
-    let h = c.loop-k-test.true in
+    let h : c.loop-k.k < record_count c.args.edges.now.survey.corners.now = omega arith in
     record {
-      slots_len = (c.requires.levelled.size, omega arith, omega (arith, few (goal.at.link-requires-in-loop-k-2 c).At-loop-k), c.requires.wets.size, (second (goal.at.link-requires-in-loop-k-2 c).After-link-in-loop-k).room);
+      slots_len = (
+        c.args.edges.now.levelled.size,
+        omega arith,
+        omega (arith, few (goal.at.link-requires-in-loop-k-2 c).At-loop-k),
+        c.requires.wets.size,
+        (second (goal.at.link-requires-in-loop-k-2 c).After-link-in-loop-k).room,
+      );
       k_bound = far-few (goal.at.link-requires-in-loop-k-2 c).At-loop-k h 2 (omega arith);
     }
 
 pub loop-k-preserved : goal.loop-k-preserved
 loop-k-preserved c =
     let e : 3 * c.loop-k.k + 1 + 1 + 1 ≡ 3 * (c.loop-k.k + 1) = omega arith in
-    (subst (LinkedAt (goal.at.loop-k-preserved c).At-loop-k c.link-in-loop-k-2.new.links) e (third (goal.at.loop-k-preserved c).After-link-in-loop-k-2), omega (arith, c.loop-k-test.true))
-
-pub shape_of-links : goal.shape_of-links
-shape_of-links c = c.loop-k.invariant.0.room ∙ sym (ap length c.requires.links_value ∙ length-replicate {A = ℕ} 29232 4883)
+    subst (LinkedAt (goal.at.loop-k-preserved c).At-loop-k c.link-in-loop-k-2.new.links) e (third (goal.at.loop-k-preserved c).After-link-in-loop-k-2)
 
 pub returns : goal.returns
-returns c =
-    linked (filled (goal.at.returns c).At-loop-k) c.loop-k.links (3 * c.loop-k.k) (omega (arith, c.loop-k-test.false)) c.loop-k.invariant.0
+returns c = linked (filled (goal.at.returns c).At-loop-k) c.loop-k.links (3 * c.loop-k.k) (omega arith) c.loop-k.invariant

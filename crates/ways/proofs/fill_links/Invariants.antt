@@ -1,10 +1,7 @@
 -- `ways::fill_links` meets its contract: before each turn the links of the corners passed are in.
-use Prim.Native.Nat.{◌-◌, ◌*◌, ◌≤◌}
+use Prim.Native.Nat.{◌*◌}
 use Rattle.ways.proofs.Slots.{Linked}
 use Rattle.ways.proofs.fill_links.Given as goal
 
 abbrev pub invariant-loop-k : goal.invariant-loop-k
-invariant-loop-k l = Linked l.corners l.wets l.slots l.links (3 * l.k) × (l.k ≤ l.count)
-
-abbrev pub decreases-loop-k : goal.decreases-loop-k
-decreases-loop-k l = l.count - l.k
+invariant-loop-k l = Linked l.edges.survey.corners.now l.wets l.edges.slots.now l.links (3 * l.k)

@@ -1,7 +1,9 @@
--- `ways::find` meets its contract: checks 1 to 6 with tables of its own, and the rest with amendments or without.
-use Rattle.amendments.proofs.Calls.{empty-is}
-use Rattle.ways.proofs.Call.{Call}
-use Rattle.ways.proofs.Amended.{by-tables, without}
+-- `ways::find` meets its contract: what is returned stands for the count of the way's corners or for the refusal, and the meaning follows from the equation.
+use Prim.Native.Nat.{ℕ}
+use mathlib.Core.Path.{sym, subst}
+use Rattle.rules.specs.declared.Passage.{Passage}
+use Rattle.ways.specs.Shows.{Shows}
+use Rattle.ways.proofs.Call.{Call, answer_amended}
 use Rattle.ways.proofs.Laws.{promised}
 use Rattle.ways.proofs.find.Goals as goal
 use Rattle.ways.proofs.find.Goals.{Start}
@@ -14,22 +16,15 @@ call s = record {
   question = record { start = s.args.start; end = s.args.end; way = s.args.way.now; work = s.args.work.now };
 }
 
-pub returns-then-number-ne0 : goal.returns-then-number-ne0
-returns-then-number-ne0 c =
-    let both = promised (call (goal.at.returns-then-number-ne0 c).Start) c.args.amendments.now
-    (by-tables (call (goal.at.returns-then-number-ne0 c).Start) c.args.amendments.now _ c.read-number.ensures.value c.if-number-ne0.true _ c.refused.ensures) in record { exact = both.0; means = both.1 }
+pub returns-in-Ok : goal.returns-in-Ok
+returns-in-Ok c =
+    let both = promised (call (goal.at.returns-in-Ok c).Start) c.args.amendments.now c.in-Ok.ensures in
+    record { exact = both.0; means = both.1 }
 
-pub find_in_force-requires : goal.find_in_force-requires
-find_in_force-requires c = c.read-number.ensures.tables c.if-number-ne0.false
-
-pub returns-then-amendments-eq0 : goal.returns-then-amendments-eq0
-returns-then-amendments-eq0 c =
-    let amendments = c.args.amendments.now in
-    let both = promised (call (goal.at.returns-then-amendments-eq0 c).Start) amendments
-    (without (call (goal.at.returns-then-amendments-eq0 c).Start) amendments (empty-is amendments c.if-amendments-eq0.true) (c.read-number.ensures.tables c.if-number-ne0.false).passed c.find_in_force.ensures) in record { exact = both.0; means = both.1 }
-
-pub find_amended-requires : goal.find_amended-requires
-find_amended-requires c = c.read-number.ensures.tables c.if-number-ne0.false
-
-pub returns : goal.returns
-returns c = let both = promised (call (goal.at.returns c).Start) c.args.amendments.now c.find_amended.ensures in record { exact = both.0; means = both.1 }
+pub returns-in-Err : goal.returns-in-Err
+returns-in-Err c =
+    let refused : ℕ → Passage = λ n. record { number = n; corners = 0 } in
+    let shows = subst (λ (n : ℕ). Shows (answer_amended (call (goal.at.returns-in-Err c).Start) c.args.amendments.now) (refused n) c.find_checked.new.way
+    c.find_checked.new.work) (sym c.from.ensures) c.in-Err.ensures in
+    let both = promised (call (goal.at.returns-in-Err c).Start) c.args.amendments.now shows in
+    record { exact = both.0; means = both.1 }

@@ -1,38 +1,23 @@
 -- `ways::find_amended` meets its contract: 14 and 15, then the way with the corner table as amended.
-use mathlib.Core.Path.{◌≡◌, sym, ◌∙◌}
-use lib.ListN.{length, take}
-use Rattle.rules.specs.Resounding.{amended}
-use Rattle.amendments.proofs.Calls.{amended-fits}
-use Rattle.checks.proofs.Amended.{tables_kept}
+use mathlib.Core.Path.{sym, ap}
+use Rattle.rules.specs.Refusals.{refusal_number}
+use Rattle.amendments.proofs.Refusals.{some_number, refused_with}
+use Rattle.ways.specs.Shows.{passage_from}
 use Rattle.ways.proofs.Call.{Call, call_of}
 use Rattle.ways.proofs.Amended.{by_amendments, in_force}
 use Rattle.ways.proofs.find_amended.Goals as goal
-use Rattle.ways.proofs.find_amended.Goals.{Else-number-ne0, Start}
+use Rattle.ways.proofs.find_amended.Goals.{Start}
 
 abbrev call : Start → Call
-call s = call_of s.args.cells.now s.args.corners.now s.args.asked s.args.way.now s.args.work.now
+call s = call_of s.args.passed.cells.now s.args.passed.corners.now s.args.asked s.args.way.now s.args.work.now
 
--- where they pass, the front of the table is the corner table as amended
-in_front : (e : Else-number-ne0) → take (length e.args.corners.now) e.refusal-number.new.table
-    ≡ amended e.args.corners.now e.args.amendments.now
-in_front e = e.refusal-number.ensures.table_after e.if-number-ne0.false
-
-pub returns-then-number-ne0 : goal.returns-then-number-ne0
-returns-then-number-ne0 c =
-    by_amendments (call (goal.at.returns-then-number-ne0 c).Start) c.args.amendments.now _ c.refusal-number.ensures.value c.if-number-ne0.true _ c.refused.ensures
-
-pub slice_bounds-table-end : goal.slice_bounds-table-end
-slice_bounds-table-end c =
-    (amended-fits c.args.cells.now c.args.corners.now c.args.amendments.now _ c.requires.passed (in_front c)).0
-
-pub slice_bounds-find_in_force-end : goal.slice_bounds-find_in_force-end
-slice_bounds-find_in_force-end c =
-    (amended-fits c.args.cells.now c.args.corners.now c.args.amendments.now _ c.requires.passed (in_front (goal.at.slice_bounds-find_in_force-end c).Else-number-ne0)).1
-
-pub find_in_force-requires : goal.find_in_force-requires
-find_in_force-requires c =
-    tables_kept c.args.cells.now c.args.corners.now c.args.amendments.now c.args.laid.now c.args.octants.now _ (in_front (goal.at.find_in_force-requires c).Else-number-ne0) c.requires
+pub returns-in_err-survey : goal.returns-in_err-survey
+returns-in_err-survey c =
+    let e = c.in_err-survey.field-0.0 in
+    by_amendments (call (goal.at.returns-in_err-survey c).Start) c.args.amendments.now (refusal_number e) c.in_err-survey.ensures.value (some_number e) _
+    (ap passage_from (refused_with _ _ c.from_residual.ensures.1))
 
 pub returns : goal.returns
 returns c =
-    in_force (call (goal.at.returns c).Start) c.args.amendments.now (sym c.refusal-number.ensures.value ∙ c.if-number-ne0.false) _ (in_front (goal.at.returns c).Else-number-ne0) c.find_in_force.ensures
+    let (cells, corners) = c.in_ok-survey.ensures.survey in
+    in_force (call (goal.at.returns c).Start) c.args.amendments.now (sym c.in_ok-survey.ensures.value) cells corners c.find_in_force.ensures

@@ -39,7 +39,7 @@ far-requires c = (c.requires.levelled.size, slot-inside (goal.at.far-requires c)
 
 pub returns-then-lowest-level : goal.returns-then-lowest-level
 returns-then-lowest-level c =
-    subst (UpperEnd c.args.corners.now (axis_of c.args.axis) c.args.k c.args.level) (sym c.far.ensures)
+    subst (UpperEnd c.args.corners.now (axis_of c.args.axis) c.args.k c.args.level) (sym (c.from.ensures ∙ c.far.ensures))
     (from-table (goal.at.returns-then-lowest-level c).Start (sym c.lowest.ensures ∙ c.if-lowest-level.true))
 
 pub step-requires : goal.step-requires

@@ -8,14 +8,14 @@ use Rattle.base.specs.Grid.{origin}
 use Rattle.rules.specs.Survey.{record_count, cell, cells_of}
 use Rattle.octree.proofs.Accepted.{checked}
 use Rattle.cells.specs.Laid.{cell_at}
-use Rattle.checks.proofs.Passed.{few-cells, few-corners, places_rise}
+use Rattle.checks.proofs.PassedTables.{few-cells, few-corners, places_rise}
 use Rattle.octants.specs.Octants.{Octant}
 use Rattle.edges.specs.Tables.{cell_edges, edges_of}
 use Rattle.edges.specs.Noting.{with_edge}
 use Rattle.edges.proofs.Notes.{note_next, levels_same, edges_from}
 use Rattle.edges.proofs.Surveyed.{record-inside, cell-shallow}
 use Rattle.edges.proofs.noting.note_cell.Goals as goal
-use Rattle.edges.proofs.noting.note_cell.Goals.{After-start_of, In-loop-e}
+use Rattle.edges.proofs.noting.note_cell.Goals.{After-from-start, In-loop-e}
 
 -- the edge at hand
 abbrev edge_at : In-loop-e → ℕ
@@ -48,16 +48,16 @@ module _ (c : In-loop-e) where
   octant i h = c.requires.octants.octant c.args.n i c.requires.n_in_bounds.0 h
 
 pub loop-e-init : goal.loop-e-init
-loop-e-init c = (omega arith, c.requires.levels)
+loop-e-init c = c.requires.levels
 
-pub overflow_mul-start : goal.overflow_mul-start
-overflow_mul-start c = omega (arith, record-few c)
+pub overflow_mul-n : goal.overflow_mul-n
+overflow_mul-n c = omega (arith, record-few c)
 
 pub start_of-requires : goal.start_of-requires
 start_of-requires c = edge_few c
 
-pub overflow_add-start : goal.overflow_add-start
-overflow_add-start c = omega (arith, record-few (goal.at.overflow_add-start c).In-loop-e, c.start_of.ensures.1)
+pub overflow_add-n : goal.overflow_add-n
+overflow_add-n c = omega (arith, record-few (goal.at.overflow_add-n c).In-loop-e, c.start_of.ensures.1)
 
 pub offset_bounds-octants-n : goal.offset_bounds-octants-n
 offset_bounds-octants-n c = omega (arith, record-few (goal.at.offset_bounds-octants-n c).In-loop-e, c.start_of.ensures.1)
@@ -65,10 +65,6 @@ offset_bounds-octants-n c = omega (arith, record-few (goal.at.offset_bounds-octa
 pub bounds-octants-n : goal.bounds-octants-n
 bounds-octants-n c =
     omega (arith, record-few (goal.at.bounds-octants-n c).In-loop-e, c.start_of.ensures.1, c.requires.octants.room)
-
-pub overflow_cast-start : goal.overflow_cast-start
-overflow_cast-start c =
-    omega (arith, (octant (goal.at.overflow_cast-start c).In-loop-e _ c.start_of.ensures.1).number, corners-few (goal.at.overflow_cast-start c).In-loop-e)
 
 pub overflow_mul-end : goal.overflow_mul-end
 overflow_mul-end c = omega (arith, record-few (goal.at.overflow_mul-end c).In-loop-e)
@@ -87,38 +83,41 @@ bounds-octants-n-in-loop-e c =
     omega (arith, record-few (goal.at.bounds-octants-n-in-loop-e c).In-loop-e, c.end_of.ensures.1, c.requires.octants.room)
 
 -- the slot of the edge at hand
-slot-few : (f : After-start_of) →
-    4872 * (edge_at (goal.at.After-start_of f).In-loop-e / 4) + get_or f.args.octants.now (8 * f.args.n + f.start_of.result) 0 < 14616
+slot-few : (f : After-from-start) → 4872 * (edge_at (goal.at.After-from-start f).In-loop-e / 4) + f.from-start.result < 14616
 slot-few f =
-    omega (arith, edge_few (goal.at.After-start_of f).In-loop-e, (octant (goal.at.After-start_of f).In-loop-e _ f.start_of.ensures.1).number, corners-few (goal.at.After-start_of f).In-loop-e)
+    omega (
+      arith,
+      edge_few (goal.at.After-from-start f).In-loop-e,
+      f.from-start.ensures,
+      (octant (goal.at.After-from-start f).In-loop-e _ f.start_of.ensures.1).number,
+      corners-few (goal.at.After-from-start f).In-loop-e,
+    )
 
 pub overflow_add-e : goal.overflow_add-e
-overflow_add-e c = omega (arith, slot-few (goal.at.overflow_add-e c).After-start_of)
+overflow_add-e c = omega (arith, slot-few (goal.at.overflow_add-e c).After-from-start)
 
 pub note_edge-requires : goal.note_edge-requires
 note_edge-requires c =
-    (c.loop-e.invariant.1.size, slot-few (goal.at.note_edge-requires c).After-start_of, level-few (goal.at.note_edge-requires c).In-loop-e)
+    (c.loop-e.invariant.size, slot-few (goal.at.note_edge-requires c).After-from-start, level-few (goal.at.note_edge-requires c).In-loop-e)
 
 pub loop-e-preserved : goal.loop-e-preserved
 loop-e-preserved c =
     let tc = c.args.cells.now in
     let tk = c.args.corners.now in
     let corner : ℕ → ℕ = λ i. get_or c.args.octants.now (8 * c.args.n + i) 0 in
-    let slot = 4872 * (edge_at (goal.at.loop-e-preserved c).In-loop-e / 4) + corner c.start_of.result in
+    let slot = 4872 * (edge_at (goal.at.loop-e-preserved c).In-loop-e / 4) + c.from-start.result in
     let law = checked tc tk c.requires.corners_value in
     let q : c.loop-e.e ≡ edge_at (goal.at.loop-e-preserved c).In-loop-e + 1 = omega arith in
     let before = levels_same tk _ _ _ (ap (λ i. drop i (cell_edges (cell_at tc c.args.n)) ++ edges_of (drop (c.args.n + 1) (cells_of tc))) q)
-    c.loop-e.invariant.1 in (
-      omega arith,
-      note_next tc tk c.args.octants.now c.requires.octants c.args.n c.requires.n_in_bounds.0 (edge_at (goal.at.loop-e-preserved c).In-loop-e) (edge_few (goal.at.loop-e-preserved c).In-loop-e)
-          c.type_inv.corners (places_rise tc tk law) (few-corners tc tk law) (shallow (goal.at.loop-e-preserved c).In-loop-e)
-          (edges_of (drop (c.args.n + 1) (cells_of tc))) c.loop-e.slots before c.args.level slot c.requires.n_in_bounds.1
-          (ap (λ i. 4872 * (edge_at (goal.at.loop-e-preserved c).In-loop-e / 4) + corner i) c.start_of.ensures.0) _
-          (c.note_edge.ensures ∙ ap (λ i. with_edge c.loop-e.slots slot c.args.level (corner i)) c.end_of.ensures.0),
-    )
+    c.loop-e.invariant in
+    note_next tc tk c.args.octants.now c.requires.octants c.args.n c.requires.n_in_bounds.0 (edge_at (goal.at.loop-e-preserved c).In-loop-e) (edge_few (goal.at.loop-e-preserved c).In-loop-e)
+    c.type_inv.corners (places_rise tc tk law) (few-corners tc tk law) (shallow (goal.at.loop-e-preserved c).In-loop-e)
+    (edges_of (drop (c.args.n + 1) (cells_of tc))) c.loop-e.slots before c.args.level slot c.requires.n_in_bounds.1
+    (ap (λ i. 4872 * (edge_at (goal.at.loop-e-preserved c).In-loop-e / 4) + i) (c.from-start.ensures ∙ ap corner c.start_of.ensures.0)) _
+    (c.note_edge.ensures ∙ ap (λ i. with_edge c.loop-e.slots slot c.args.level (corner i)) c.end_of.ensures.0)
 
 pub shape_of-slots : goal.shape_of-slots
-shape_of-slots c = c.loop-e.invariant.1.size ∙ sym c.requires.levels.size
+shape_of-slots c = c.loop-e.invariant.size ∙ sym c.requires.levels.size
 
 pub returns : goal.returns
 returns c =
@@ -127,4 +126,4 @@ returns c =
     let e = edges_from (cells_of tc) (cell origin 10 false) c.args.n (record-inside tc c.args.corners.now c.requires.corners_value c.args.n
     c.requires.n_in_bounds.0) in
     levels_same c.args.corners.now _ _ _
-    (ap (λ i. drop i (cell_edges (cell_at tc c.args.n)) ++ edges_of (drop (c.args.n + 1) (cells_of tc))) z ∙ sym e) c.loop-e.invariant.1
+    (ap (λ i. drop i (cell_edges (cell_at tc c.args.n)) ++ edges_of (drop (c.args.n + 1) (cells_of tc))) z ∙ sym e) c.loop-e.invariant

@@ -1,5 +1,5 @@
 -- `edges::noting::note_cell` meets its contract: before each turn the table is of the cell's edges from edge e on, and of those of the cells behind.
-use Prim.Native.Nat.{◌+◌, ◌≤◌}
+use Prim.Native.Nat.{◌+◌}
 use mathlib.Core.List.{◌++◌}
 use lib.ListN.{drop}
 use Rattle.rules.specs.Survey.{cells_of}
@@ -9,7 +9,4 @@ use Rattle.edges.proofs.noting.note_cell.Given as goal
 
 abbrev pub invariant-loop-e : goal.invariant-loop-e
 invariant-loop-e l =
-    (l.e ≤ 12) × Levels l.corners (drop l.e (cell_edges (cell_at l.cells l.n)) ++ edges_of (drop (l.n + 1) (cells_of l.cells))) l.slots
-
-abbrev pub decreases-loop-e : goal.decreases-loop-e
-decreases-loop-e l = l.e
+    Levels l.corners (drop l.e (cell_edges (cell_at l.cells l.n)) ++ edges_of (drop (l.n + 1) (cells_of l.cells))) l.slots

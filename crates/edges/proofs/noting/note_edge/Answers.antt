@@ -18,6 +18,6 @@ returns c =
     let low = c.lowest-low.ensures in
     let high = c.highest-high.ensures in
     let end = c.end_of_lower.ensures ∙ (λ i. cond (ltb l (low i)) c.args.end (c.far-known.ensures i)) in
-    let lower = c.lower.ensures ∙ ap (min l) low in
-    let higher = c.higher.ensures ∙ ap (max l) high in
+    let lower = c.from.ensures ∙ c.min.ensures ∙ ap (min l) low in
+    let higher = c.from-2.ensures ∙ c.max.ensures ∙ ap (max l) high in
     λ i. set (set c.args.slots.now (3 * c.args.slot + 1) (end i)) (3 * c.args.slot) (lower i + 16 * higher i)

@@ -1,46 +1,53 @@
-use Prim.Native.Nat.{◌+◌, ◌-◌, ◌*◌, ◌/◌}
+use Prim.Native.Nat.{◌+◌, ◌*◌, ◌/◌, ◌%◌, ◌≤◌}
 use mathlib.Core.Path.{◌≡◌, sym, ap, ◌∙◌}
 use native.Mathlib.Omega.{arith}
 use lib.ListN.{length}
-use Rattle.base.specs.Lists.{bit}
-use Rattle.rules.specs.Outputs.{survey_of}
+use Rattle.rules.specs.Survey.{record_count}
 use Rattle.edges.specs.Tables.{slots_below}
-use Rattle.edges.proofs.Numbering.{none_below, none_between, count_next, below_le}
-use Rattle.edges.proofs.Readings.{record_outside, crossed-inside}
+use Rattle.edges.specs.Surveyed.{surveyed}
+use Rattle.edges.proofs.Numbering.{none_below, below_le}
+use Rattle.enquiry.proofs.Enquiring.{known}
+use Rattle.enquiry.proofs.Counting.{counted, axis_counted}
 use Rattle.enquiry.proofs.answers.count_crossed.Goals as goal
+use Rattle.enquiry.proofs.answers.count_crossed.Goals.{Start, After-count_on_axis-n, After-count_on_axis}
 
-pub loop-i-init : goal.loop-i-init
-loop-i-init c =
-    (omega arith, omega arith, sym (none_below (survey_of c.args.cells.now c.args.corners.now c.args.clearance)))
+few : (c : Start) → record_count c.args.edges.now.survey.corners.now ≤ 4872
+few c =
+    let s = c.args.edges.now.survey in
+    omega (arith, (known s).few)
 
--- no slot from i to the end of its axis is crossed, so that the slot counted up to lies behind
-pub loop-i-preserved-then-i-count : goal.loop-i-preserved-then-i-count
-loop-i-preserved-then-i-count c =
-    let tc = c.args.cells.now in
-    let tk = c.args.corners.now in
-    let i = c.loop-i.i in
-    let left = i / 4872 * 4872 + 4872 - i in
-    let end : i + left ≡ i / 4872 * 4872 + 4872 = omega arith in
-    let same = none_between (survey_of tc tk c.args.clearance) left i (λ j h k. record_outside tc tk c.args.clearance j (omega arith)) in
-    let inside = crossed-inside tc tk c.args.clearance c.args.slot c.requires.slot_bound.1 in
-    (omega arith, omega arith, c.loop-i.invariant.2 ∙ sym (ap length same) ∙ ap (λ j. length (slots_below (survey_of tc tk c.args.clearance) j)) end)
+-- with the axis at hand
+passed : (c : After-count_on_axis-n) → c.loop-axis.n + c.count_on_axis-n.result
+    ≡ length (slots_below (surveyed c.args.edges.now.survey) (4872 * (c.loop-axis.axis + 1)))
+passed c =
+    let s = c.args.edges.now.survey in
+    (λ i. c.loop-axis.invariant i + c.count_on_axis-n.ensures i)
+    ∙ axis_counted s.cells.now s.corners.now s.clearance (few (goal.at.After-count_on_axis-n c).Start) c.loop-axis.axis
 
-pub is_crossed-crossed-requires : goal.is_crossed-crossed-requires
-is_crossed-crossed-requires c =
-    record {
-      clearance_value = c.requires.clearance_value;
-      wets = c.requires.wets;
-      levelled = c.requires.levelled;
-      slot_bound = omega arith;
-    }
+-- with its own axis
+whole : (c : After-count_on_axis) → c.loop-axis.n + c.count_on_axis.result ≡ length (slots_below (surveyed c.args.edges.now.survey) c.args.slot)
+whole c =
+    let s = surveyed c.args.edges.now.survey in
+    let at : c.loop-axis.axis ≡ c.args.slot / 4872 = omega arith in
+    let slot : 4872 * (c.args.slot / 4872) + c.args.slot % 4872 ≡ c.args.slot = omega arith in
+    (λ i. (c.loop-axis.invariant ∙ ap (λ j. length (slots_below s (4872 * j))) at) i + c.count_on_axis.ensures i)
+    ∙ counted s (4872 * (c.args.slot / 4872)) (c.args.slot % 4872)
+    ∙ ap (λ j. length (slots_below s j)) slot
 
-pub loop-i-preserved : goal.loop-i-preserved
-loop-i-preserved c =
-    let t = survey_of c.args.cells.now c.args.corners.now c.args.clearance in
-    let e = count_next t c.loop-i.i c.loop-i.n c.mark.result c.loop-i.invariant.2 (c.mark.ensures ∙ ap bit c.is_crossed-crossed.ensures) in
-    (omega arith, omega (arith, e, below_le t (c.loop-i.i + 1)), e)
+pub loop-axis-init : goal.loop-axis-init
+loop-axis-init c = sym (none_below (surveyed c.args.edges.now.survey))
+
+pub count_on_axis-n-requires-clause-axis_bound : goal.count_on_axis-n-requires-clause-axis_bound
+count_on_axis-n-requires-clause-axis_bound c = (omega arith, few (goal.at.count_on_axis-n-requires-clause-axis_bound c).Start)
+
+pub overflow_add-n : goal.overflow_add-n
+overflow_add-n c = omega (arith, passed c, below_le (surveyed c.args.edges.now.survey) (4872 * (c.loop-axis.axis + 1)))
+
+pub loop-axis-preserved : goal.loop-axis-preserved
+loop-axis-preserved c = passed c
+
+pub overflow_add-result : goal.overflow_add-result
+overflow_add-result c = omega (arith, whole c, below_le (surveyed c.args.edges.now.survey) c.args.slot)
 
 pub returns : goal.returns
-returns c =
-    let q : c.loop-i.i ≡ c.args.slot = omega arith in
-    c.loop-i.invariant.2 ∙ ap (λ j. length (slots_below (survey_of c.args.cells.now c.args.corners.now c.args.clearance) j)) q
+returns c = whole c

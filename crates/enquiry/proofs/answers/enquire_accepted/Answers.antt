@@ -2,35 +2,20 @@
 use mathlib.Core.Path.{refl}
 use native.Mathlib.Omega.{arith}
 use Rattle.edges.proofs.Notes.{none_noted}
-use Rattle.edges.proofs.Readings.{corners, no_refusal}
-use borrow.Author.Rules.{rules}
+use Rattle.edges.proofs.Readings.{no_refusal}
+use Rattle.enquiry.proofs.Enquiring.{known}
 use Rattle.enquiry.proofs.answers.enquire_accepted.Goals as goal
 
-pub fill_levels-requires : goal.fill_levels-requires
-fill_levels-requires c =
-    let tc = c.args.cells.now in
-    let tk = c.args.corners.now in
-    let x = c.args.clearance in
-    record {
-      corners_value = no_refusal tc tk x c.requires.clearance_value;
-      octants = c.requires.octants;
-      laid = c.requires.laid;
-      levels = none_noted tk 43848 refl (omega (arith, (corners tc tk x c.requires.clearance_value).few));
-    }
+pub fill_levels-requires-clause-corners_value : goal.fill_levels-requires-clause-corners_value
+fill_levels-requires-clause-corners_value c =
+    let s = c.args.survey in
+    no_refusal s.cells.now s.corners.now s.clearance s.accepted
 
-pub fill_wets-requires : goal.fill_wets-requires
-fill_wets-requires c =
-    let known = corners c.args.cells.now c.args.corners.now c.args.clearance c.requires.clearance_value in
-    record { corners_value = known.rises; wets_len = (search rules, known.few) }
+pub fill_levels-requires-clause-levels : goal.fill_levels-requires-clause-levels
+fill_levels-requires-clause-levels c = none_noted c.args.survey.corners.now 43848 refl (omega (arith, (known c.args.survey).few))
 
-pub edge_answer-requires : goal.edge_answer-requires
-edge_answer-requires c =
-    record {
-      clearance_value = c.requires.clearance_value;
-      wets = c.fill_wets.ensures.wets;
-      levelled = c.fill_levels.ensures;
-      axis_bound = c.requires.axis_bound;
-    }
+pub fill_wets-requires-clause-corners_value : goal.fill_wets-requires-clause-corners_value
+fill_wets-requires-clause-corners_value c = (known c.args.survey).rises
 
-pub returns : goal.returns
-returns c = c.edge_answer.ensures
+pub fill_wets-requires-clause-wets_len : goal.fill_wets-requires-clause-wets_len
+fill_wets-requires-clause-wets_len c = (refl, (known c.args.survey).few)

@@ -7,7 +7,7 @@ pub returns-then-end : goal.returns-then-end
 returns-then-end c =
     let trace = c.args.trace.now in
     let twins = c.args.twins.now in
-    let leads = leads-twin trace twins _ _ c.wide-at.ensures c.if-end.true in
+    let leads = leads-twin trace twins _ _ c.from-at.ensures c.if-end.true in
     record {
       value = λ i. record { before = c.args.self.at; at = leads i };
       follows = λ ss twin w n t. leads ∙ leads-onward ss twin trace twins _ w n t;
@@ -17,7 +17,7 @@ pub returns : goal.returns
 returns c =
     let trace = c.args.trace.now in
     let twins = c.args.twins.now in
-    let leads = leads-step trace twins _ _ c.wide-at.ensures c.if-end.false in
+    let leads = leads-step trace twins _ _ c.from-at.ensures c.if-end.false in
     record {
       value = λ i. record { before = c.args.self.at; at = leads i };
       follows = λ ss twin w n t. leads ∙ leads-onward ss twin trace twins _ w n t;

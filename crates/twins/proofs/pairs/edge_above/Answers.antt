@@ -3,120 +3,152 @@
 use Prim.Native.Nat.{ℕ, suc, ◌+◌, ◌*◌, ◌≤◌}
 use mathlib.Core.Path.{◌≡◌, sym, ap, ◌∙◌, subst}
 use mathlib.Core.Logic.{inr}
-use mathlib.Core.Bool.{false}
+use mathlib.Core.Bool.{true, false}
 use mathlib.Core.List.{List}
 use native.Mathlib.Omega.{arith}
-use Rattle.base.specs.Grid.{axis_of}
+use lib.Ieee.{Float}
+use Rattle.base.specs.Grid.{Place, Axis, axis_of}
+use Rattle.rules.specs.Outputs.{accepted}
 use Rattle.rules.specs.Steps.{is_upper, above}
 use Rattle.records.specs.Keys.{key_of, places_of}
 use Rattle.records.proofs.Keys.{get_place}
 use Rattle.records.proofs.Search.{key_at}
 use Rattle.edges.specs.Tables.{place_at, lowest_at, highest_at, OddEdge, Sought}
-use Rattle.twins.proofs.Climbing.{back-room, above-upper, above_short}
+use Rattle.edges.proofs.Lent.{corner_bytes}
 use Rattle.edges.proofs.Readings.{corners, no_refusal}
 use Rattle.edges.proofs.Surveyed.{edge-shallow}
 use Rattle.edges.proofs.Seeking.{edge_levels, levels_edge, sought_miss, sought_hit}
-use Rattle.twins.proofs.Twins.{risen_upper, risen_lower, risen_none, start_same, upper_half}
+use Rattle.twins.proofs.Climbing.{back-room, above-upper, above_short}
+use Rattle.twins.proofs.Twins.{risen_upper, risen_lower, start_same, upper_half}
 use Rattle.twins.proofs.pairs.edge_above.Goals as goal
-use Rattle.twins.proofs.pairs.edge_above.Goals.{Else-highest-level, Else-is_upper, Start}
+use Rattle.twins.proofs.pairs.edge_above.Goals.{After-edge_record-start, Else-highest-level, Else-is_upper, Start}
 
 module _ (s : Start) where
   abbrev tc : List ℕ
-  tc = s.args.cells.now
+  tc = s.args.edges.now.survey.cells.now
 
   abbrev tk : List ℕ
-  tk = s.args.corners.now
+  tk = s.args.edges.now.survey.corners.now
 
-  abbrev odd-edge : OddEdge s.args.cells.now s.args.corners.now s.args.clearance (axis_of s.args.axis) s.args.k s.args.level
-  odd-edge = s.requires.axis_bound.1
+  abbrev x : Float
+  x = s.args.edges.now.survey.clearance
+
+  abbrev ok : accepted tc tk x ≡ true
+  ok = s.args.edges.now.survey.accepted
+
+  abbrev a : Axis
+  a = axis_of s.args.axis
+
+  abbrev p : Place
+  p = place_at (places_of tk) s.args.k
+
+  abbrev odd-edge : OddEdge tc tk x a s.args.k s.args.level
+  odd-edge = s.requires.1
 
   level-low : s.args.level ≤ 10
-  level-low = edge-shallow tc tk (no_refusal tc tk s.args.clearance s.requires.clearance_value) _ _ _ odd-edge.is_edge_lem
+  level-low = edge-shallow tc tk (no_refusal tc tk x ok) _ _ _ odd-edge.is_edge_lem
 
-  key-is : (key : ℕ) → key ≡ key_at s.args.corners.now s.args.k → key ≡ key_of (place_at (places_of s.args.corners.now) s.args.k)
+  key-is : (key : ℕ) → key ≡ key_at tk s.args.k → key ≡ key_of p
   key-is key e = e ∙ sym (ap key_of (get_place tk s.args.k odd-edge.inside))
 
-  lowest-le : lowest_at s.args.slots.now (4872 * s.args.axis + s.args.k) ≤ s.args.level
+  lowest-le : lowest_at s.args.edges.now.slots.now (4872 * s.args.axis + s.args.k) ≤ s.args.level
   lowest-le =
-      (edge_levels tc tk s.args.clearance s.requires.clearance_value s.args.slots.now s.requires.levelled s.args.axis
-      s.args.k s.args.level s.requires.axis_bound.0 odd-edge.inside odd-edge.is_edge_lem).0
-
-lower : (c : Else-is_upper) →
-    is_upper (axis_of c.args.axis) (place_at (places_of c.args.corners.now) c.args.k) c.args.level ≡ false
-lower c = sym c.is_upper.ensures ∙ c.if-is_upper.false
+      (edge_levels tc tk x ok s.args.edges.now.slots.now s.args.edges.now.levelled s.args.axis s.args.k s.args.level s.requires.0
+      odd-edge.inside odd-edge.is_edge_lem).0
 
 pub is_upper-requires : goal.is_upper-requires
-is_upper-requires c = ((odd-edge (goal.at.is_upper-requires c).Start).inside, level-low (goal.at.is_upper-requires c).Start)
+is_upper-requires c = let s = (goal.at.is_upper-requires c).Start in ((odd-edge s).inside, level-low s)
 
 pub step_back-key-requires : goal.step_back-key-requires
-step_back-key-requires c = (
-  back-room (axis_of c.args.axis) _ c.args.level _ (key-is (goal.at.step_back-key-requires c).Start _ c.key_at.ensures)
-      (sym c.is_upper.ensures ∙ c.if-is_upper.true),
-  level-low (goal.at.step_back-key-requires c).Start,
-)
+step_back-key-requires c =
+    let s = (goal.at.step_back-key-requires c).Start in (
+      back-room (a s) _ c.args.level _ (key-is s _ c.key_at.ensures) (sym c.is_upper.ensures ∙ c.if-is_upper.true),
+      level-low s,
+    )
 
 pub overflow_add-level : goal.overflow_add-level
 overflow_add-level c = omega (arith, level-low (goal.at.overflow_add-level c).Start)
 
-pub returns-then-is_upper : goal.returns-then-is_upper
-returns-then-is_upper c =
-    let a = axis_of c.args.axis in
-    let k = c.args.k in
-    let l = c.args.level in
-    let p = place_at (places_of (tk (goal.at.returns-then-is_upper c).Start)) k in
-    let h = sym c.is_upper.ensures ∙ c.if-is_upper.true in
-    let q : l + 1 ≡ suc l = omega arith in
-    let f = c.edge_record-start.ensures (above a p l) (above_short (tk (goal.at.returns-then-is_upper c).Start) c.type_inv.corners a k l (odd-edge (goal.at.returns-then-is_upper c).Start).inside)
-    (above-upper a p l _ (key-is (goal.at.returns-then-is_upper c).Start _ c.key_at.ensures) _ h c.step_back-key.ensures) in
-    risen_upper (tc (goal.at.returns-then-is_upper c).Start) (tk (goal.at.returns-then-is_upper c).Start) c.args.clearance c.requires.clearance_value a k l c.args.end c.edge_record-start.result h c.requires.axis_bound.2
-    (subst (λ (m : ℕ). Sought (tc (goal.at.returns-then-is_upper c).Start) (tk (goal.at.returns-then-is_upper c).Start) a (above a p l) m c.edge_record-start.result) q f)
+-- an upper half: what the search for the edge above gives
+module _ (c : After-edge_record-start) where
+  abbrev st : Start
+  st = (goal.at.After-edge_record-start c).Start
+
+  upper : is_upper (a st) (p st) c.args.level ≡ true
+  upper = sym c.is_upper.ensures ∙ c.if-is_upper.true
+
+  sought : Sought (tc st) (tk st) (a st) (above (a st) (p st) c.args.level) (suc c.args.level) c.edge_record-start.result
+  sought =
+      let l = c.args.level in
+      let q : l + 1 ≡ suc l = omega arith in
+      subst (λ (m : ℕ). Sought (tc st) (tk st) (a st) (above (a st) (p st) l) m c.edge_record-start.result) q
+      (c.edge_record-start.ensures (above (a st) (p st) l)
+      (above_short (tk st) (corner_bytes c.args.edges.now.survey) (a st) c.args.k l (odd-edge st).inside)
+      (above-upper (a st) (p st) l _ (key-is st _ c.key_at.ensures) _ upper c.step_back-key.ensures))
 
 pub highest-requires : goal.highest-requires
 highest-requires c =
-    (c.requires.levelled.size, omega (arith, (odd-edge (goal.at.highest-requires c).Start).inside, c.requires.axis_bound.0, (corners (tc (goal.at.highest-requires c).Start) (tk (goal.at.highest-requires c).Start) c.args.clearance c.requires.clearance_value).few))
+    let s = (goal.at.highest-requires c).Start in
+    (c.args.edges.now.levelled.size, omega (arith, (odd-edge s).inside, c.requires.0, (corners (tc s) (tk s) (x s) (ok s)).few))
+
+-- a lower half
+module _ (c : Else-is_upper) where
+  abbrev from : Start
+  from = (goal.at.Else-is_upper c).Start
+
+  lower : is_upper (a from) (p from) c.args.level ≡ false
+  lower = sym c.is_upper.ensures ∙ c.if-is_upper.false
+
+  same_start : p from ≡ above (a from) (p from) c.args.level
+  same_start = start_same (tc from) (tk from) (x from) (ok from) (a from) c.args.k c.args.level lower
 
 pub overflow_add-level-2 : goal.overflow_add-level-2
 overflow_add-level-2 c = omega (arith, level-low (goal.at.overflow_add-level-2 c).Start)
 
-pub returns-then-highest-level : goal.returns-then-highest-level
-returns-then-highest-level c =
-    let a = axis_of c.args.axis in
-    let k = c.args.k in
-    let l = c.args.level in
-    risen_none (tc (goal.at.returns-then-highest-level c).Start) (tk (goal.at.returns-then-highest-level c).Start) c.args.clearance c.requires.clearance_value a k l c.args.end c.args.end
-    (sought_miss (tc (goal.at.returns-then-highest-level c).Start) (tk (goal.at.returns-then-highest-level c).Start) c.args.clearance c.requires.clearance_value c.args.slots.now c.requires.levelled c.args.axis k (suc l) c.requires.axis_bound.0
-    (odd-edge (goal.at.returns-then-highest-level c).Start).inside _ (start_same (tc (goal.at.returns-then-highest-level c).Start) (tk (goal.at.returns-then-highest-level c).Start) c.args.clearance c.requires.clearance_value a k l (lower (goal.at.returns-then-highest-level c).Else-is_upper)) (inr (omega (arith, c.highest.ensures))))
-
 -- the edge above a lower half is there
 reaches : (c : Else-highest-level) → suc c.args.level ≤
-    highest_at c.args.slots.now (4872 * c.args.axis + c.args.k)
+    highest_at c.args.edges.now.slots.now (4872 * c.args.axis + c.args.k)
 reaches c = omega (arith, c.highest.ensures)
+
+pub returns-then-start-corners : goal.returns-then-start-corners
+returns-then-start-corners c = (sought (goal.at.returns-then-start-corners c).After-edge_record-start).none (omega arith)
+
+pub returns-then-is_upper : goal.returns-then-is_upper
+returns-then-is_upper c =
+    let g = (goal.at.returns-then-is_upper c).After-edge_record-start in
+    let s = st g in
+    risen_upper (tc s) (tk s) (x s) (ok s) (a s) c.args.k c.args.level c.args.end c.edge_record-start.result (upper g) c.requires.2 (omega arith)
+    (sought g)
+
+pub returns-then-highest-level : goal.returns-then-highest-level
+returns-then-highest-level c =
+    let s = (goal.at.returns-then-highest-level c).Start in
+    (sought_miss (tc s) (tk s) (x s) (ok s) c.args.edges.now.slots.now c.args.edges.now.levelled c.args.axis c.args.k (suc c.args.level) c.requires.0
+    (odd-edge s).inside _ (same_start (goal.at.returns-then-highest-level c).Else-is_upper) (inr (omega (arith, c.highest.ensures)))).none (omega arith)
 
 pub upper_end-requires : goal.upper_end-requires
 upper_end-requires c =
-    let x = c.args.clearance in
-    let g = c.requires.axis_bound.0 in
-    let u = c.requires.axis_bound.2 in
-    let low = lowest-le (goal.at.upper_end-requires c).Start in
-    let whole = levels_edge (tc (goal.at.upper_end-requires c).Start) (tk (goal.at.upper_end-requires c).Start) x c.requires.clearance_value c.args.slots.now c.requires.levelled c.args.axis c.args.k (suc c.args.level) g
-    (odd-edge (goal.at.upper_end-requires c).Start).inside (omega arith) (reaches c) in
+    let s = (goal.at.upper_end-requires c).Start in
+    let low = lowest-le s in
+    let u = c.requires.2 in
+    let whole = levels_edge (tc s) (tk s) (x s) (ok s) c.args.edges.now.slots.now c.args.edges.now.levelled c.args.axis c.args.k (suc c.args.level)
+    c.requires.0 (odd-edge s).inside (omega arith) (reaches (goal.at.upper_end-requires c).Else-highest-level) in
     record {
-      corners_value = no_refusal (tc (goal.at.upper_end-requires c).Start) (tk (goal.at.upper_end-requires c).Start) x c.requires.clearance_value;
-      levelled = c.requires.levelled;
+      corners_value = no_refusal (tc s) (tk s) (x s) (ok s);
+      levelled = c.args.edges.now.levelled;
       axis_bound = (
-        g,
+        c.requires.0,
         u.inside,
-        upper_half (tc (goal.at.upper_end-requires c).Start) (tk (goal.at.upper_end-requires c).Start) x c.requires.clearance_value (axis_of c.args.axis) c.args.k c.args.level c.args.end u (odd-edge (goal.at.upper_end-requires c).Start).is_edge_lem whole,
+        upper_half (tc s) (tk s) (x s) (ok s) (a s) c.args.k c.args.level c.args.end u (odd-edge s).is_edge_lem whole,
       );
     }
 
 pub returns : goal.returns
 returns c =
-    let a = axis_of c.args.axis in
-    let k = c.args.k in
-    let l = c.args.level in
-    let x = c.args.clearance in
-    let low = lowest-le (goal.at.returns c).Start in
-    risen_lower (tc (goal.at.returns c).Start) (tk (goal.at.returns c).Start) x c.requires.clearance_value a k l (lower (goal.at.returns c).Else-is_upper) c.args.end c.upper_end.result c.requires.axis_bound.2 c.upper_end.ensures
-    (sought_hit (tc (goal.at.returns c).Start) (tk (goal.at.returns c).Start) x c.requires.clearance_value c.args.slots.now c.requires.levelled c.args.axis k (suc l) c.requires.axis_bound.0 (odd-edge (goal.at.returns c).Start).inside _
-    (start_same (tc (goal.at.returns c).Start) (tk (goal.at.returns c).Start) x c.requires.clearance_value a k l (lower (goal.at.returns c).Else-is_upper)) (omega arith) (reaches (goal.at.returns c).Else-highest-level))
+    let s = (goal.at.returns c).Start in
+    let g = (goal.at.returns c).Else-is_upper in
+    let low = lowest-le s in
+    risen_lower (tc s) (tk s) (x s) (ok s) (a s) c.args.k c.args.level (lower g) c.args.end c.upper_end.result c.requires.2 c.upper_end.ensures
+    (odd-edge s).inside
+    (sought_hit (tc s) (tk s) (x s) (ok s) c.args.edges.now.slots.now c.args.edges.now.levelled c.args.axis c.args.k (suc c.args.level) c.requires.0
+    (odd-edge s).inside _ (same_start g) (omega arith) (reaches (goal.at.returns c).Else-highest-level))
