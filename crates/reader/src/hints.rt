@@ -15,12 +15,20 @@ fn mixed(key: u64) -> u64 {
     key % 65536 * 12243079 + key / 65536 % 65536 * 52777471 + key / 4294967296 * 11112915
 }
 
-// A number brought into the range of so many hints: where they are a power of two it is the remainder, which a mask makes without a branch.
+// A number brought into the range of so many hints. Where they are a power of two it is the remainder by that, which a mask makes without a branch; else it is the
+// remainder by 1,024 or 8,192, since the mask would leave few places.
 fn within(at: u64, hints: usize) -> usize
     requires { 1024 ≤ hints }
     ensures { result < hints }
 {
-    at as usize & (hints - 1)
+    let mask = hints - 1;
+    if hints & mask == 0 {
+        return at as usize & mask;
+    }
+    if hints < 8192 {
+        return (at % 1024) as usize;
+    }
+    (at % 8192) as usize
 }
 
 // The tag of a key, by the mixed key: digits that say nothing of where its hints are, so that few keys with hints there have the same tag.
