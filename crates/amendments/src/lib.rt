@@ -23,12 +23,15 @@ fn bad_table(amendments: &[u8]) -> bool
     amendments.len() > records::AMENDMENT_LIMIT
 }
 
-// Copies `n` bytes of one table, from `start` on, over those of another, from `at` on.
+// Copies `n` bytes of one table, from `start` on, over those of another, from `at` on. One by one, since for `copy_from_slice` the archive would need memmove of
+// the C library, which nothing else in it does.
 fn copy(from: &[u8], start: usize, n: usize, to: &mut [u8], at: usize)
     requires { (start + n ≤ length from.now) × (at + n ≤ length to.old) }
     ensures { to.new ≡ take at to.old ++ bytes from.now start n ++ drop (at + n) to.old }
 {
-    to[at..at + n].copy_from_slice(&from[start..start + n]);
+    for i in 0..n {
+        to[at + i] = from[start + i];
+    }
 }
 
 // Amendment `n`, after those before it: it takes the place of the record that held so far at its corner unless that one is of a later day. Refused if it is at
