@@ -22,15 +22,17 @@ fn wet_end(mark: u8) -> End
     if mark == 0 { End::Lower } else { End::Upper }
 }
 
-// How many of the slots of an axis are crossed, of those of the first `count` corner records.
+// How many of the slots of an axis are crossed, of those of the first `count` corner records. Each is added as 0 or 1: a processor can't foretell a branch on it.
 fn count_on_axis(edges: &Edges<'_, '_>, wets: &[u8], axis: usize, count: usize) -> usize
     requires wets { Wets edges.now.survey.corners.now edges.now.survey.clearance wets.now }
     requires axis_bound { (axis < 3) × (count ≤ 4872) }
     ensures { result ≡ count_by (λ k. crossed_slot (surveyed edges.now.survey) (4872 * axis + k)) (range_with_len 0 count) }
 {
-    (0..count)
-        .filter(|k| edges.is_crossed(wets, 4872 * axis + *k))
-        .count()
+    let mut crossed: usize = 0;
+    for k in 0..count {
+        crossed += usize::from(edges.is_crossed(wets, 4872 * axis + k));
+    }
+    crossed
 }
 
 // How many crossed slots come before a crossed one: on the axes before its own, then on its own.
