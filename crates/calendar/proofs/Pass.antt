@@ -1,6 +1,6 @@
 -- One pass over the records gives what the rules say of a calendar at a minute.
 -- Assumes nothing.
-use Rattle.std.specs.Prelude.{Result, Ok, Err}
+use Rattle.std.specs.Prelude.{Result, Ok, Err, Option, Some, None}
 use Prim.Native.Nat.{ℕ, ◌+◌, ◌%◌, ◌≤◌, ◌<◌}
 use mathlib.Core.Path.{◌≡◌, refl, sym, ap, ◌∙◌}
 use mathlib.Core.Bool.{Bool, true, false, not, ◌&&◌, ◌||◌, cond, true≢false}
@@ -23,6 +23,11 @@ use Rattle.calendar.proofs.Periods.{follows, all_follow, all_follow_is, lawful�
 -- a calendar read at a minute: the clearance in force, or 16 or 17
 abbrev pub Reading : Type 0
 Reading = Result Float Refusal
+
+-- what is read where the record in force, if one was met, is known by its number
+abbrev pub read_of : List ℕ → Option ℕ → Reading
+read_of t None = Err Minute
+read_of t (Some k) = Ok (period_at t k).clearance
 
 module _ (minute : ℕ) where
   -- what is read with one record more

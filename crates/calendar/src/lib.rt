@@ -49,7 +49,8 @@ fn holds(p: Period, minute: u32) -> bool
     p.from <= minute && minute < p.until
 }
 
-// Checks 16 and 17, and the clearance in force at a minute: each record is read once, up to the first that breaks a rule.
+// Checks 16 and 17, and the clearance in force at a minute: each record is looked at once, up to the first that breaks a rule. The pass keeps the number of the
+// record in force, and not its clearance: a float that may be kept or not costs a jump at each record.
 fn read(calendar: &[u8], minute: u32) -> Result<f32, Refusal>
     ensures { result ≡ reading_at calendar.now minute }
 {
@@ -57,7 +58,7 @@ fn read(calendar: &[u8], minute: u32) -> Result<f32, Refusal>
         return Err(Refusal::Calendar);
     }
     let count = calendar.len() / SIZE;
-    let mut reading = Err(Refusal::Minute);
+    let mut in_force: Option<usize> = None;
     let mut ended: u32 = 0;
     for k in 0..count {
         let p = period_at(calendar, k);
@@ -65,11 +66,14 @@ fn read(calendar: &[u8], minute: u32) -> Result<f32, Refusal>
             return Err(Refusal::Calendar);
         }
         if holds(p, minute) {
-            reading = Ok(p.clearance);
+            in_force = Some(k);
         }
         ended = p.until;
     }
-    reading
+    match in_force {
+        Some(k) => Ok(period_at(calendar, k).clearance),
+        None => Err(Refusal::Minute),
+    }
 }
 
 // Where the calendar refuses: the first refusal of the survey by itself, and only then the calendar's.
@@ -80,9 +84,8 @@ fn refused(cells: &[u8], corners: &[u8], amendments: &[u8], refusal: Refusal) ->
       triangles = 0;
     } }
 {
-    let first = checks::check_before(cells, corners, amendments, refusal);
     Drawn {
-        number: u32::from(first),
+        number: checks::check_before(cells, corners, amendments, u32::from(refusal)),
         points: 0,
         triangles: 0,
     }

@@ -5,7 +5,7 @@
 ghost use Rattle.std.specs.Prelude.{◌≡◌, true, OnOk, not, [], ◌∷◌, ◌++◌, ◌+◌, ◌*◌, ◌≤◌, ◌<◌, ◌/◌, length, get_or, set, take, ltb, eqb};
 ghost use Rattle.base.specs.Lists.{all, any, count as up_to};
 ghost use Rattle.rules.specs.Survey.{record_count, entries, cells_of, corners_of};
-ghost use Rattle.rules.specs.Refusals.{refusal_number, outcome};
+ghost use Rattle.rules.specs.Refusals.{outcome};
 ghost use Rattle.rules.specs.Outputs.{corner_limit, bad_table, entries_right, rising, corners_right, in_range, first_of, table_checks, survey_refusal, checks};
 ghost use Rattle.rules.specs.Resounding.{check_amended, check_order};
 ghost use Rattle.records.specs.Keys.{places_of};
@@ -171,13 +171,13 @@ pub fn check(cells: &[u8], corners: &[u8], amendments: &[u8]) -> Result<(), Refu
     check_amended(survey, amendments)
 }
 
-// Where a call refuses something that it is lent besides: the first refusal of the survey by itself, and only then that one.
-pub fn check_before(cells: &[u8], corners: &[u8], amendments: &[u8], refusal: Refusal) -> Refusal
-    ensures { refusal_number result ≡ first_of (check_order cells.now corners.now amendments.now
-        ++ (refusal_number refusal, true) ∷ []) }
+// Where a call refuses something that it is lent besides, by any number: the first refusal of the survey by itself, and only then that number. It is a number and
+// no `Refusal`, since a caller may refuse by numbers of its own.
+pub fn check_before(cells: &[u8], corners: &[u8], amendments: &[u8], number: u32) -> u32
+    ensures { result ≡ first_of (check_order cells.now corners.now amendments.now ++ (number, true) ∷ []) }
 {
     match check(cells, corners, amendments) {
-        Ok(()) => refusal,
-        Err(first) => first,
+        Ok(()) => number,
+        Err(first) => u32::from(first),
     }
 }

@@ -59,9 +59,8 @@ fn refused(cells: &[u8], corners: &[u8], amendments: &[u8], refusal: Refusal) ->
       corners = 0;
     } }
 {
-    let first = checks::check_before(cells, corners, amendments, refusal);
     Passage {
-        number: u32::from(first),
+        number: checks::check_before(cells, corners, amendments, u32::from(refusal)),
         corners: 0,
     }
 }

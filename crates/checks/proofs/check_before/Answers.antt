@@ -8,17 +8,17 @@ use Rattle.amendments.proofs.Refusals.{some_number}
 use Rattle.amendments.proofs.Laws.{survey_numbered, check-is}
 use Rattle.checks.proofs.check_before.Goals as goal
 
--- nothing refuses the survey: the other refusal is the first
+-- nothing refuses the survey: the other number is the first
 pub returns-in-Ok : goal.returns-in-Ok
 returns-in-Ok c =
     let a = c.args in
     refused_last (check_order a.cells.now a.corners.now a.amendments.now) (survey_numbered a.cells.now a.corners.now a.amendments.now)
-    (refusal_number a.refusal) true 0 (c.in-Ok.ensures ∙ check-is a.cells.now a.corners.now a.amendments.now) refl refl
+    a.number true 0 (c.in-Ok.ensures ∙ check-is a.cells.now a.corners.now a.amendments.now) refl refl
 
 -- a refusal of the survey comes before it
 pub returns-in-Err : goal.returns-in-Err
 returns-in-Err c =
     let a = c.args in
     let e = c.in-Err.first in
-    refused-before (check_order a.cells.now a.corners.now a.amendments.now) (survey_numbered a.cells.now a.corners.now a.amendments.now)
-    (refusal_number a.refusal) true (refusal_number e) (c.in-Err.ensures ∙ check-is a.cells.now a.corners.now a.amendments.now) (some_number e)
+    c.from.ensures ∙ refused-before (check_order a.cells.now a.corners.now a.amendments.now) (survey_numbered a.cells.now a.corners.now a.amendments.now)
+    a.number true (refusal_number e) (c.in-Err.ensures ∙ check-is a.cells.now a.corners.now a.amendments.now) (some_number e)
