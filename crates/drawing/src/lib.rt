@@ -1,6 +1,5 @@
 // The drawing call: the checks of the tables, the amendments, the other checks, 12 after 8, the tables of edges and points, all triangles, the refusals of
-// slices that are too short, the points. The slices are written only where both have room. Uses checks, amendments, edges, twins, across, crossings and
-// triangles.
+// slices that are too short, the points. The slices are written only where both have room. Uses checks, edges, twins, across, crossings and triangles.
 #![tactic(auto)]
 
 ghost use Rattle.std.specs.Prelude.{◌≡◌, true, [], ◌∷◌, ◌*◌, ◌≤◌, OnOk, ltb, length};

@@ -1,4 +1,4 @@
-// The edge enquiry: whether an edge is even or crossing, where, and which end is wet. Uses checks, amendments and edges.
+// The edge enquiry: whether an edge is even or crossing, where, and which end is wet. Uses checks and edges.
 #![tactic(auto)]
 
 ghost use Rattle.std.specs.Prelude.{◌≡◌};

@@ -1,5 +1,4 @@
-// The call that shows a way: document 02, request 8. It makes the table of links from the slots of edges, and searches it. Uses checks, amendments, edges and
-// graph.
+// The call that shows a way: document 02, request 8. It makes the table of links from the slots of edges, and searches it. Uses checks, edges and graph.
 #![tactic(auto)]
 
 ghost use Rattle.std.specs.Prelude.{◌≡◌, true, [], ◌+◌, ◌*◌, ◌≤◌, ◌<◌, length, replicate};
