@@ -49,8 +49,8 @@ fn holds(p: Period, minute: u32) -> bool
     p.from <= minute && minute < p.until
 }
 
-// Checks 16 and 17, and the clearance in force at a minute: each record is looked at once, up to the first that breaks a rule. The pass keeps the number of the
-// record in force, and not its clearance: a float that may be kept or not costs a jump at each record.
+// Checks 16 and 17, and the clearance in force at a minute: one pass over the records, up to the first that breaks a rule. It keeps the number of the record in
+// force, and not its clearance, which is read behind it: a float that may be kept or not costs a jump at each record.
 fn read(calendar: &[u8], minute: u32) -> Result<f32, Refusal>
     ensures { result ≡ reading_at calendar.now minute }
 {
